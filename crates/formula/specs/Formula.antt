@@ -1,0 +1,54 @@
+-- Formulas in conjunctive normal form, and their status under a partial assignment. Assumes nothing.
+-- A literal is a number: 2v is variable v and 2v + 1 its opposite. A clause is a list of literals, a formula a list of clauses.
+-- An assignment lists the values of variables 0, 1, .. in prefix order, 1 for true and 0 for false. A variable past its end is unset.
+use Prim.Native.Nat.{ℕ, _+_, _-_, _*_, _/_, _%_}
+use mathlib.Core.Bool.{Bool, false, cond, _||_}
+use mathlib.Core.List.{List, [], _∷_}
+use lib.ListN.{length, getD}
+use lib.Dec.{leb, ltb, eqb}
+use Rattle.formula.specs.declared.Status.{Status}
+use Rattle.formula.specs.declared.Status.the-variants.{Falsified, Undetermined, Satisfied}
+use Rattle.formula.specs.Status.{either, both}
+
+abbrev pub variable : ℕ → ℕ
+variable l = l / 2
+
+-- the literal of the same variable with the other sign
+abbrev pub opposite : ℕ → ℕ
+opposite l = cond (eqb (l % 2) 0) (l + 1) (l - 1)
+
+-- unset: undetermined. Value 0 falsifies 2v and value 1 falsifies 2v + 1; the other value satisfies
+unfoldable pub literal-status : List ℕ → ℕ → Status
+literal-status p l = cond (ltb (variable l) (length p)) (cond (eqb (getD p (variable l) 0) (l % 2)) Falsified Satisfied) Undetermined
+
+-- the empty clause is false
+unfoldable pub clause-status : List ℕ → List ℕ → Status
+clause-status p [] = Falsified
+clause-status p (l ∷ ls) = either (literal-status p l) (clause-status p ls)
+
+-- the formula with no clauses is true
+unfoldable pub formula-status : List ℕ → List (List ℕ) → Status
+formula-status p [] = Satisfied
+formula-status p (c ∷ cs) = both (clause-status p c) (formula-status p cs)
+
+-- whether some element passes the test
+unfoldable pub some-of : {A : Type 0} → (A → Bool) → List A → Bool
+some-of f [] = false
+some-of f (x ∷ xs) = f x || some-of f xs
+
+-- whether x stands in the list
+abbrev pub member : ℕ → List ℕ → Bool
+member x = some-of (eqb x)
+
+-- whether the literal is of variable v
+abbrev pub is-of : ℕ → ℕ → Bool
+is-of v l = eqb v (variable l)
+
+-- whether the clause has a literal of 2n or more, whose variable is not under n
+unfoldable pub out-of-range : ℕ → List ℕ → Bool
+out-of-range n = some-of (leb (2 * n))
+
+-- whether a variable stands twice in the clause
+unfoldable pub repeats : List ℕ → Bool
+repeats [] = false
+repeats (l ∷ ls) = some-of (is-of (variable l)) ls || repeats ls
