@@ -1,0 +1,3 @@
+-- The maximum probability of satisfaction of a stochastic Boolean formula: fractions, propositional formulas, Pr.
+pub mod Fraction
+pub mod Probability
