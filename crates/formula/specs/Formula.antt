@@ -2,7 +2,7 @@
 -- A literal is a number: 2v is variable v and 2v + 1 its opposite. A clause is a list of literals, a formula a list of clauses.
 -- An assignment lists the values of variables 0, 1, .. in prefix order, 1 for true and 0 for false. A variable past its end is unset.
 use Prim.Native.Nat.{ℕ, _+_, _-_, _*_, _/_, _%_}
-use mathlib.Core.Bool.{Bool, false, cond, _||_}
+use mathlib.Core.Bool.{Bool, true, false, cond, _&&_, _||_}
 use mathlib.Core.List.{List, [], _∷_}
 use lib.ListN.{length, getD}
 use lib.Dec.{leb, ltb, eqb}
@@ -35,6 +35,11 @@ formula-status p (c ∷ cs) = both (clause-status p c) (formula-status p cs)
 unfoldable pub some-of : {A : Type 0} → (A → Bool) → List A → Bool
 some-of f [] = false
 some-of f (x ∷ xs) = f x || some-of f xs
+
+-- whether every element passes the test
+unfoldable pub all-of : {A : Type 0} → (A → Bool) → List A → Bool
+all-of f [] = true
+all-of f (x ∷ xs) = f x && all-of f xs
 
 -- whether x stands in the list
 abbrev pub member : ℕ → List ℕ → Bool

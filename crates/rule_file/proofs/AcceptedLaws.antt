@@ -1,14 +1,17 @@
 -- A file is answered exactly where it is Accepted, and then by its header. Assumes nothing.
-use mathlib.Core.Path.{_≡_, refl, sym, _∙_}
+use mathlib.Core.Path.{_≡_, refl, sym, ap, _∙_}
 use mathlib.Core.Bool.{Bool, true, false}
 use mathlib.Core.List.{List}
+use mathlib.Core.Option.{none}
 use Prim.Native.Nat.{ℕ}
 use native.Mathlib.Omega.{arith}
-use Rattle.rule_file.specs.Answer.{Answer, answer, refuse-if}
+use Rattle.rule_file.specs.Answer.{Answer, refused, answer, refuse-if}
 use Rattle.rule_file.specs.RuleFile.{clauses, prefix}
-use Rattle.rule_file.specs.Reader.{read-file, read-from-3, read-from-5, read-from-8}
+use Rattle.rule_file.specs.Reader.{reading, read-file, read-from-3, read-from-5, read-from-8}
 use Rattle.rule_file.specs.Accepted.{Accepted, header}
 use Rattle.rule_file.specs.declared.Header.{Header}
+use Rattle.rule_file.specs.declared.Reading.{Reading}
+use Rattle.rule_file.specs.declared.Reading.the-variants as reading-variants
 use Rattle.rule_file.proofs.ReaderLaws.{check-1, check-2, check-3, check-4, check-9, found-first, found-none}
 
 -- an answer has passed the check at hand
@@ -58,3 +61,10 @@ accepted-answers b a =
       found-first _ (prefix b) ∙ a .well-formed,
       check-9 b .1 (a .bounded),
     )
+
+-- what the reader answered, for a caller that goes by the case of it
+pub reading-refused : (b : List ℕ) (r : Reading) (k : ℕ) → reading r ≡ read-file b → r ≡ reading-variants.Refused k → read-file b ≡ refused k none
+reading-refused b r k e c = sym e ∙ ap reading c
+
+pub reading-accepted : (b : List ℕ) (r : Reading) (h : Header) → reading r ≡ read-file b → r ≡ reading-variants.Accepted h → Accepted b × (h ≡ header b)
+reading-accepted b r h e c = answered b h (sym e ∙ ap reading c)

@@ -21,3 +21,8 @@ found (some i) = true
 abbrev pub later : Option ℕ → Option ℕ
 later none = none
 later (some i) = some (suc i)
+
+-- goes on from the values, and passes a refusal on
+abbrev pub and-then : {A B : Type 0} → Answer A → (A → Answer B) → Answer B
+and-then (refused k place) f = refused k place
+and-then (answer x) f = f x

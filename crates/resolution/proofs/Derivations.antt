@@ -1,0 +1,81 @@
+-- What a checked derivation gives: its lines are derivable, so that they are sound and bounded, and it closes with the figure.
+-- Assumes that no variable stands twice in a clause of the formula or in a line: refusals 7 and 16.
+use Prim.Native.Nat.{ℕ, zero, suc, _≤_, _<_}
+use native.Mathlib.Nat.{le-refl, not-suc-le-zero}
+use native.Mathlib.Omega.{arith}
+use mathlib.Core.Path.{_≡_, sym, ap, _∙_}
+use mathlib.Core.Bool.{false}
+use mathlib.Core.List.{List, [], _∷_, List·Memᴰ·head, List·Memᴰ·tail}
+use mathlib.Core.Option.{none, some}
+use lib.ListN.{length}
+use borrow.Author.Tests.{eqb-false}
+use Rattle.formula.specs.Formula.{variable, some-of, is-of, repeats}
+use Rattle.formula.specs.Quantifier.{Quantifier}
+use Rattle.formula.specs.Tree.{figure}
+use Rattle.formula.proofs.SomeLaws.{or-false}
+use Rattle.resolution.specs.Resolution.{_∈_, Annotated, NonTautological, Derivable, R1, R2, R3, Line, derived, line-at, Names, clause, line}
+use Rattle.resolution.specs.Resolution.{Follows, by-R2, by-R3, lookup, judge, judge-lines, closing-value}
+use Rattle.resolution.proofs.Membership.{none-of, getD-in}
+use Rattle.resolution.proofs.Levels.{opposite-is}
+use Rattle.resolution.proofs.Check.{lookup-names, judge-iff, judge-lines-iff, closing-iff}
+use Rattle.resolution.proofs.Soundness.{Sound, derivable-sound, derivable-empty}
+use Rattle.resolution.proofs.Bounds.{Bounded, derivable-bounded}
+
+module _ (x : ℕ) (xs : List ℕ) (e : repeats (x ∷ xs) ≡ false) where
+  repeats-parts : (some-of (is-of (variable x)) xs ≡ false) × (repeats xs ≡ false)
+  unfolding repeats
+  repeats-parts = or-false (some-of (is-of (variable x)) xs) (repeats xs) e
+
+  first-alone : {k : ℕ} → k ∈ xs → variable x ≡ variable k → ⊥
+  first-alone {k} m = eqb-false (variable x) (variable k) (none-of (is-of (variable x)) (repeats-parts .0) m)
+
+one-of-a-variable : {l k : ℕ} {c : List ℕ} → repeats c ≡ false → l ∈ c → k ∈ c → variable l ≡ variable k → l ≡ k
+one-of-a-variable e (List·Memᴰ·head p) (List·Memᴰ·head q) v = p ∙ sym q
+one-of-a-variable e (List·Memᴰ·head {x = x} {xs = xs} p) (List·Memᴰ·tail m) v = absurd (first-alone x xs e m (ap variable (sym p) ∙ v))
+one-of-a-variable e (List·Memᴰ·tail {x = x} {xs = xs} m) (List·Memᴰ·head q) v = absurd (first-alone x xs e m (ap variable (sym q) ∙ sym v))
+one-of-a-variable e (List·Memᴰ·tail {x = x} {xs = xs} m) (List·Memᴰ·tail n) v = one-of-a-variable (repeats-parts x xs e .1) m n v
+
+pub no-repeats-non-tautological : (c : List ℕ) → repeats c ≡ false → NonTautological c
+no-repeats-non-tautological c e l m n = let (same, other) = opposite-is l in let is = one-of-a-variable e m n (sym same) in omega arith
+
+module _ (φ : List (List ℕ)) (qs : List Quantifier) (lines : List Line)
+    (φ-no-repeats : some-of repeats φ ≡ false) (lines-no-repeats : some-of (λ l. repeats (derived l .literals)) lines ≡ false) where
+  abbrev Follow : ℕ → Type 0
+  Follow n = (k : ℕ) → k < n → Follows φ qs lines k (line-at lines k)
+
+  abbrev LinesDerivable : ℕ → Type 0
+  LinesDerivable n = (k : ℕ) → k < n → Derivable φ qs (derived (line-at lines k))
+
+  named-from : {n r : ℕ} {c : Annotated} → LinesDerivable n → Names φ lines n r c → Derivable φ qs c
+  named-from earlier (clause i h) = let m = getD-in φ i [] h in R1 (no-repeats-non-tautological _ (none-of repeats φ-no-repeats m)) m
+  named-from earlier (line i h) = earlier i h
+
+  follows-from : {n : ℕ} {l : Line} → LinesDerivable n → NonTautological (derived l .literals) → Follows φ qs lines n l → Derivable φ qs (derived l)
+  follows-from earlier non-taut (by-R2 b) = R2 non-taut b
+  follows-from earlier non-taut (by-R3 p q r) = R3 non-taut (named-from earlier p) (named-from earlier q) r
+
+  lines-derivable : (n : ℕ) → n ≤ length lines → Follow n → LinesDerivable n
+  lines-derivable zero fits follow k h = absurd (not-suc-le-zero h)
+  lines-derivable (suc n) fits follow k h =
+      follows-from
+      (λ i j. lines-derivable n (omega arith) (λ m g. follow m (omega arith)) i (omega arith))
+      (no-repeats-non-tautological _ (none-of (λ l. repeats (derived l .literals)) lines-no-repeats (getD-in lines k _ (omega arith))))
+      (follow k h)
+
+  accepted-derivable : judge-lines φ qs lines ≡ none → {r : ℕ} {c : Annotated} → Names φ lines (length lines) r c → Derivable φ qs c
+  accepted-derivable e = named-from (lines-derivable (length lines) (le-refl _) (judge-lines-iff φ qs lines .0 e))
+
+  -- Lemma 3.1 for what a reference names, a clause of φ or a line
+  pub accepted-sound : judge-lines φ qs lines ≡ none → {r : ℕ} {c : Annotated} → Names φ lines (length lines) r c → Sound φ qs c
+  accepted-sound e n = derivable-sound (accepted-derivable e n)
+
+  -- the closing value of an accepted derivation is the figure
+  pub closing-is-figure : (r x : ℕ) → judge-lines φ qs lines ≡ none → closing-value φ lines r ≡ some x → figure φ qs ≡ x
+  closing-is-figure r x e close = derivable-empty (accepted-derivable e (closing-iff φ lines r x .0 close))
+
+  -- what the check may take for granted of the parents of line n
+  pub parent-bounded : (n : ℕ) → n ≤ length lines → ((k : ℕ) → k < n → judge φ qs lines k (line-at lines k) ≡ none)
+      → (r : ℕ) (c : Annotated) → lookup φ lines n r ≡ some c → Bounded qs c
+  parent-bounded n fits passed r c e =
+      let follow : Follow n = λ k h. judge-iff φ qs lines k (line-at lines k) .0 (passed k h) in
+      derivable-bounded (named-from (lines-derivable n fits follow) (lookup-names φ lines n r c e))

@@ -1,0 +1,2 @@
+-- S-resolution and the check of its derivations, over lists.
+pub mod Resolution

@@ -1,0 +1,2 @@
+-- Laws of the figure and of the verdict.
+pub mod ValueLaws

@@ -1,0 +1,2 @@
+-- What the figure and the verdict answer.
+pub mod Value
