@@ -7,6 +7,7 @@ use Prim.Native.Nat.{ℕ, zero, suc, _+_, _-_, _*_, _≤_, _<_, min}
 use native.Mathlib.Nat.{min-eq-left, min-eq-right, mul-le-mul-right, mul-le-mul-left, mul-assoc, mul-comm, mul-one, le-trans, mul-pos}
 use native.Mathlib.Decide.{decLe}
 use native.Mathlib.Omega.{arith}
+use lib.ListN.{length}
 use lib.Dec.{eqb, ltb, eqb·suc-zero}
 use Rattle.formula.specs.Formula.{some-of}
 use Rattle.formula.specs.Quantifier.{Quantifier, existential, randomized, total, denominator}
@@ -23,6 +24,11 @@ module _ (b : List ℕ) (left i : ℕ) where
   pub prefix-over : left ≤ 0 → prefix-from b left i ≡ []
   unfolding prefix-from
   prefix-over h = let e : left ≡ 0 = omega arith in rw e
+
+pub prefix-length : (b : List ℕ) (left i : ℕ) → length (prefix-from b left i) ≡ left
+unfolding prefix-from
+prefix-length b zero i = refl
+prefix-length b (suc left) i = ap suc (prefix-length b left (i + 2))
 
 -- a quantifier by its weights: both 0, or not
 pub quantifier-none : (s t : ℕ) → s + t ≡ 0 → quantifier s t ≡ existential

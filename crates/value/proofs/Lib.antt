@@ -1,2 +1,3 @@
 -- Laws of the figure and of the verdict.
 pub mod ValueLaws
+pub mod FigureIsPr
