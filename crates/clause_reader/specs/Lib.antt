@@ -1,0 +1,2 @@
+-- The clause reader over bytes.
+pub mod Cursor

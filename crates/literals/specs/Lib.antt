@@ -1,0 +1,2 @@
+-- Clauses as parts of a file.
+pub mod Literals
