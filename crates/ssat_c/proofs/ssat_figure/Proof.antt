@@ -1,0 +1,30 @@
+use mathlib.Core.Path.{refl, sym, ap, _∙_}
+use Rattle.value.specs.Value.{figuring}
+use Rattle.ssat_c.specs.Interface.{ratio-values}
+use Rattle.ssat_c.proofs.InterfaceLaws.{hand-refusal, hand-answer}
+use borrow.Author.Needs.{needs}
+use Rattle.ssat_c.proofs.ssat_figure.Statement.{statement}
+use Rattle.ssat_c.proofs.ssat_figure.Tie as tie
+
+figure-requires : tie.Need-figure-requires
+figure-requires c κs = search needs
+
+enum-known-number : tie.Need-enum-known-number
+enum-known-number c = search needs
+
+enum-known-x : tie.Need-enum-known-x
+enum-known-x c = search needs
+
+fill-requires : tie.Need-fill-requires
+fill-requires c κs = search needs
+
+returns : tie.Need-returns
+returns c = let (r, o) = hand-refusal ratio-values _ _ _ (sym (c .before .before .before .figure .ensures .0) ∙ ap figuring (c .before .number .given .1)) in (r, (o, refl))
+
+returns-2 : tie.Need-returns-2
+returns-2 c = let (r, o) = hand-answer ratio-values _ _ _ _ _ (sym (c .before .before .before .before .before .figure .ensures .0) ∙ ap figuring (c .before .before .before .x .given .1)) (c .fill .ensures .0) (c .fill .ensures .1) in (r, (o, refl))
+
+pub ssat-figure-spec : {M : Type 1} → statement M
+ssat-figure-spec =
+    tie.close
+    (tie.spec figure-requires enum-known-number enum-known-x fill-requires returns returns-2)

@@ -1,0 +1,89 @@
+// The operations for programs in other languages: numbers in, a number out, and the values in an array that the caller
+// lends. include/ssat.h declares them.
+use bounds::Cutting;
+use bounds::cut;
+use rule_file::Reading;
+use rule_file::read;
+use value::Figuring;
+use value::Judging;
+use value::figure;
+use value::verdict;
+ghost use mathlib.Core.Path.{_≡_};
+ghost use lib.Seq.{sets};
+ghost use mathlib.Core.List.{[], _∷_};
+ghost use Rattle.rule_file.specs.Reader.{read-file};
+ghost use Rattle.value.specs.Value.{figure-file, verdict-file};
+ghost use Rattle.bounds.specs.Cut.{cut-file};
+ghost use Rattle.ssat_c.specs.Interface.{code, filled, header-values, ratio-values, verdict-values, bounds-values};
+
+// An answer fills out and returns 0.
+fn fill(out: &mut [u64; 4], a: u64, b: u64, c: u64, d: u64) -> u32
+    ensures { λ r. ⌜ r ≡ 0 ⌝ }
+    ensures { λ _. ⌜ now (out .exit) ≡ sets (now (out .entry)) 0 (a ∷ b ∷ c ∷ d ∷ []) ⌝ }
+{
+    out[0] = a;
+    out[1] = b;
+    out[2] = c;
+    out[3] = d;
+    0
+}
+
+// n, m, prefix start, whole.
+#[no_mangle]
+pub extern "C" fn ssat_read(rule: &[u8], out: &mut [u64; 4]) -> u32
+    ensures returned { λ r. ⌜ r ≡ code (read-file (now (rule .entry))) ⌝ }
+    ensures stored { λ _. ⌜ now (out .exit) ≡ filled header-values (read-file (now (rule .entry))) (now (out .entry)) ⌝ }
+    ensures unchanged { λ _. ⌜ now (rule .exit) ≡ now (rule .entry) ⌝ }
+{
+    match read(rule) {
+        Reading::Refused(number) => number,
+        Reading::Accepted(h) => fill(
+            out,
+            h.variables as u64,
+            h.clauses as u64,
+            h.prefix as u64,
+            h.whole,
+        ),
+    }
+}
+
+// Figure, whole.
+#[no_mangle]
+pub extern "C" fn ssat_figure(rule: &[u8], out: &mut [u64; 4]) -> u32
+    ensures returned { λ r. ⌜ r ≡ code (figure-file (now (rule .entry))) ⌝ }
+    ensures stored { λ _. ⌜ now (out .exit) ≡ filled ratio-values (figure-file (now (rule .entry))) (now (out .entry)) ⌝ }
+    ensures unchanged { λ _. ⌜ now (rule .exit) ≡ now (rule .entry) ⌝ }
+{
+    match figure(rule) {
+        Figuring::Refused(number) => number,
+        Figuring::Answered(x) => fill(out, x.figure, x.whole, 0, 0),
+    }
+}
+
+// 0 within, 1 above, 2 below; the figure where within, else 0.
+#[no_mangle]
+pub extern "C" fn ssat_verdict(rule: &[u8], lo: u64, hi: u64, out: &mut [u64; 4]) -> u32
+    ensures returned { λ r. ⌜ r ≡ code (verdict-file (now (rule .entry)) lo hi) ⌝ }
+    ensures stored { λ _. ⌜ now (out .exit) ≡ filled verdict-values (verdict-file (now (rule .entry)) lo hi) (now (out .entry)) ⌝ }
+    ensures unchanged { λ _. ⌜ now (rule .exit) ≡ now (rule .entry) ⌝ }
+{
+    match verdict(rule, lo, hi) {
+        Judging::Refused(number) => number,
+        Judging::Above => fill(out, 1, 0, 0, 0),
+        Judging::Below => fill(out, 2, 0, 0, 0),
+        Judging::Within(figure) => fill(out, 0, figure, 0, 0),
+    }
+}
+
+// Lower, upper, open weight.
+#[no_mangle]
+pub extern "C" fn ssat_cut(rule: &[u8], level: u64, out: &mut [u64; 4]) -> u32
+    ensures returned { λ r. ⌜ r ≡ code (cut-file (now (rule .entry)) level) ⌝ }
+    ensures stored { λ _. ⌜ now (out .exit) ≡ filled bounds-values (cut-file (now (rule .entry)) level) (now (out .entry)) ⌝ }
+    ensures unchanged { λ _. ⌜ now (rule .exit) ≡ now (rule .entry) ⌝ }
+{
+    match cut(rule, level) {
+        Cutting::Refused(number) => number,
+        Cutting::Answered(x) => fill(out, x.lower, x.upper, x.undetermined, 0),
+    }
+}
