@@ -1,0 +1,2 @@
+-- The claim over the samples.
+pub mod Claim

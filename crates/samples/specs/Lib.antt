@@ -1,0 +1,2 @@
+-- Document 01's proved samples.
+pub mod Samples

@@ -1,0 +1,68 @@
+-- Document 01's samples P1 to P12 in one list: each a question to an operation, and the answer that it must give. Assumes nothing.
+use mathlib.Core.List.{List, [], _∷_}
+use Prim.Native.Nat.{ℕ, _/_, _%_}
+use Rattle.rule_file.specs.Answer.{Answer, answer}
+use Rattle.value.specs.declared.Ratio.{Ratio}
+use Rattle.value.specs.Value.{figure-file, Verdict, above, below, within, verdict-file}
+use Rattle.bounds.specs.declared.Bounds.{Bounds}
+use Rattle.bounds.specs.Cut.{cut-file}
+
+-- a file's bytes from its 32-bit words, least byte first
+unfoldable pub file : List ℕ → List ℕ
+file [] = []
+file (w ∷ ws) = w % 256 ∷ w / 256 % 256 ∷ w / 65536 % 256 ∷ w / 16777216 ∷ file ws
+
+pub data Question : Type 0 where
+  figure : List ℕ → Question
+  verdict : List ℕ → ℕ → ℕ → Question
+  cut : List ℕ → ℕ → Question
+
+pub data Outcome : Type 0 where
+  figured : Answer Ratio → Outcome
+  judged : Answer Verdict → Outcome
+  bounded : Answer Bounds → Outcome
+
+-- what the operation answers, by the definition that its contract cites
+unfoldable pub ask : Question → Outcome
+ask (figure ws) = figured (figure-file (file ws))
+ask (verdict ws lo hi) = judged (verdict-file (file ws) lo hi)
+ask (cut ws level) = bounded (cut-file (file ws) level)
+
+-- a figure out of a whole
+abbrev out-of : ℕ → ℕ → Outcome
+out-of x w = figured (answer (record { figure = x; whole = w }))
+
+pub record Sample : Type 0 where
+  pub question : Question
+  pub outcome : Outcome
+
+abbrev sample : Question → Outcome → Sample
+sample q o = record { question = q; outcome = o }
+
+-- document 01's example file, that of source document 004
+abbrev example : List ℕ
+example = 2 ∷ 0 ∷ 2 ∷ 1 ∷ 3 ∷ 2 ∷ 2 ∷ 4 ∷ 4 ∷ 1 ∷ 0 ∷ 0 ∷ 3 ∷ 7 ∷ 3 ∷ 3 ∷ 8 ∷ 18 ∷ []
+
+unfoldable pub samples : List Sample
+samples =
+    -- P1: no conditions, no clauses
+    sample (figure (0 ∷ 0 ∷ 0 ∷ 4 ∷ [])) (out-of 1 1) ∷
+    -- P2: none, one empty clause
+    sample (figure (0 ∷ 1 ∷ 0 ∷ 1 ∷ 5 ∷ [])) (out-of 0 1) ∷
+    -- P3: draw 3:1, clause {0}
+    sample (figure (1 ∷ 0 ∷ 3 ∷ 1 ∷ 1 ∷ 1 ∷ 2 ∷ 8 ∷ [])) (out-of 3 4) ∷
+    -- P4: choice, same clause
+    sample (figure (1 ∷ 0 ∷ 0 ∷ 0 ∷ 1 ∷ 1 ∷ 2 ∷ 8 ∷ [])) (out-of 1 1) ∷
+    -- P5: draw 1:1, then a choice, clauses "0 or 1" and "not 0 or not 1"
+    sample (figure (2 ∷ 0 ∷ 2 ∷ 2 ∷ 1 ∷ 3 ∷ 1 ∷ 1 ∷ 0 ∷ 0 ∷ 2 ∷ 2 ∷ 6 ∷ 14 ∷ [])) (out-of 2 2) ∷
+    -- P6: choice first, then the draw
+    sample (figure (2 ∷ 0 ∷ 2 ∷ 2 ∷ 1 ∷ 3 ∷ 0 ∷ 0 ∷ 1 ∷ 1 ∷ 2 ∷ 2 ∷ 6 ∷ 14 ∷ [])) (out-of 1 2) ∷
+    -- P7: the example
+    sample (figure example) (out-of 12 50) ∷
+    -- P8 to P10: its verdicts
+    sample (verdict example 12 12) (judged (answer (within 12))) ∷
+    sample (verdict example 13 50) (judged (answer below)) ∷
+    sample (verdict example 0 11) (judged (answer above)) ∷
+    -- P11: its cut at level 2
+    sample (cut example 2) (bounded (answer (record { lower = 0; upper = 40; undetermined = 40 }))) ∷
+    []

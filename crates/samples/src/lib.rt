@@ -1,0 +1,1 @@
+// The proved samples stand in specs/, and the one claim over them in proofs/.
