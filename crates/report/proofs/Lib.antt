@@ -1,0 +1,6 @@
+-- Laws of the report.
+pub mod TextLaws
+pub mod DecimalLaws
+pub mod ReportLaws
+pub mod Sample
+pub mod AcceptedReport

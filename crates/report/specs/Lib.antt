@@ -1,0 +1,3 @@
+-- The text that the program prints for a rule file.
+pub mod Text
+pub mod Report
