@@ -1,4 +1,4 @@
--- What a checked derivation gives: its lines are derivable, so that they are sound and bounded, and it closes with the figure.
+-- What a checked derivation gives: its lines are derivable, so that they are sound, and it closes with the figure.
 -- Assumes that no variable stands twice in a clause of the formula or in a line: refusals 7 and 16.
 use Prim.Native.Nat.{ℕ, zero, suc, _≤_, _<_}
 use native.Mathlib.Nat.{le-refl, not-suc-le-zero}
@@ -19,7 +19,6 @@ use Rattle.resolution.proofs.Membership.{none-of, getD-in}
 use Rattle.resolution.proofs.Levels.{opposite-is}
 use Rattle.resolution.proofs.Check.{lookup-names, judge-iff, judge-lines-iff, closing-iff}
 use Rattle.resolution.proofs.Soundness.{Sound, derivable-sound, derivable-empty}
-use Rattle.resolution.proofs.Bounds.{Bounded, derivable-bounded}
 
 module _ (x : ℕ) (xs : List ℕ) (e : repeats (x ∷ xs) ≡ false) where
   repeats-parts : (some-of (is-of (variable x)) xs ≡ false) × (repeats xs ≡ false)
@@ -74,8 +73,8 @@ module _ (φ : List (List ℕ)) (qs : List Quantifier) (lines : List Line)
   closing-is-figure r x e close = derivable-empty (accepted-derivable e (closing-iff φ lines r x .0 close))
 
   -- what the check may take for granted of the parents of line n
-  pub parent-bounded : (n : ℕ) → n ≤ length lines → ((k : ℕ) → k < n → judge φ qs lines k (line-at lines k) ≡ none)
-      → (r : ℕ) (c : Annotated) → lookup φ lines n r ≡ some c → Bounded qs c
-  parent-bounded n fits passed r c e =
+  pub parent-derivable : (n : ℕ) → n ≤ length lines → ((k : ℕ) → k < n → judge φ qs lines k (line-at lines k) ≡ none)
+      → (r : ℕ) (c : Annotated) → lookup φ lines n r ≡ some c → Derivable φ qs c
+  parent-derivable n fits passed r c e =
       let follow : Follow n = λ k h. judge-iff φ qs lines k (line-at lines k) .0 (passed k h) in
-      derivable-bounded (named-from (lines-derivable n fits follow) (lookup-names φ lines n r c e))
+      named-from (lines-derivable n fits follow) (lookup-names φ lines n r c e)

@@ -28,7 +28,7 @@ unfolding level
 level-above {l} (List·Memᴰ·head {x = k} {xs = ks} e) = omega arith
 level-above {l} (List·Memᴰ·tail {x = k} {xs = ks} m) = omega (arith, level-above m)
 
-level-least : (n : ℕ) (c : List ℕ) → ((l : ℕ) → l ∈ c → variable l < n) → level c ≤ n
+pub level-least : (n : ℕ) (c : List ℕ) → ((l : ℕ) → l ∈ c → variable l < n) → level c ≤ n
 unfolding level
 level-least n [] h = zero-le
 level-least n (k ∷ ks) h = omega (arith, h k (List·Memᴰ·head refl), level-least n ks (λ l m. h l (List·Memᴰ·tail m)))

@@ -15,7 +15,7 @@ use Rattle.rule_file.specs.declared.Reading.the-variants as reading-vari
 use Rattle.rule_file.proofs.ReaderLaws.{check-1, check-2, check-3, check-4, check-9, found-first, found-none}
 
 -- an answer has passed the check at hand
-passed : {A : Type 0} (t : Bool) (k : ℕ) (rest : Answer A) (x : A) → refuse-if t k rest ≡ answer x → (t ≡ false) × (rest ≡ answer x)
+pub passed : {A : Type 0} (t : Bool) (k : ℕ) (rest : Answer A) (x : A) → refuse-if t k rest ≡ answer x → (t ≡ false) × (rest ≡ answer x)
 passed false k rest x e = (refl, e)
 passed true k rest x e = let z : _≡_ {A = ℕ} 0 1 = cc in absurd (omega arith)
 

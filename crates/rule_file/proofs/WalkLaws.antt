@@ -16,7 +16,7 @@ pub found-later : (o : Option ℕ) → found (later o) ≡ found o
 found-later none = refl
 found-later (some j) = refl
 
-later-none : (o : Option ℕ) → later o ≡ none → o ≡ none
+pub later-none : (o : Option ℕ) → later o ≡ none → o ≡ none
 later-none none e = refl
 later-none (some j) e = absurd (true≢false (ap found e))
 

@@ -1,0 +1,325 @@
+//! The proved solver, through its static library, against the unproved peer: same machine, same
+//! input, both optimised. Prints Markdown tables.
+//!
+//!     cargo bench --manifest-path tests/peer/Cargo.toml
+//!
+//! The proved solver runs in a thread with a stack of 1 MiB. "Nodes" are those of the plain tree
+//! that stops at met and lost nodes, counted by the peer. The peer solves each file in two ways:
+//! "walk" visits the same tree, "tables" shares nodes with the same open clauses.
+
+#[cfg(feature = "no-ffi")]
+fn main() {
+    eprintln!("The benchmark needs the static library: build without `no-ffi`.");
+}
+
+#[cfg(not(feature = "no-ffi"))]
+fn main() {
+    bench::main();
+}
+
+#[cfg(not(feature = "no-ffi"))]
+mod bench {
+    use peer::ffi::plain;
+    use peer::generate::{self, DerivationDraft, RuleDraft, Writer};
+    use peer::guard::on_stack;
+    use peer::random::Random;
+    use peer::rules::{self, Rules};
+    use peer::tables::Tables;
+    use peer::{derivation, walk};
+    use std::hint::black_box;
+    use std::time::Instant;
+
+    const STACK: usize = 1 << 20;
+    /// A file that would take the proved solver longer than this many seconds is left out.
+    const LONGEST: f64 = 120.0;
+
+    /// Seconds for one run: the least of several runs.
+    fn seconds(mut run: impl FnMut()) -> f64 {
+        let begin = Instant::now();
+        let mut least = f64::INFINITY;
+        let mut runs = 0;
+        while runs < 3 || (runs < 1_000 && begin.elapsed().as_secs_f64() < 0.2) {
+            let one = Instant::now();
+            run();
+            least = least.min(one.elapsed().as_secs_f64());
+            runs += 1;
+            if begin.elapsed().as_secs_f64() > 10.0 {
+                break;
+            }
+        }
+        least
+    }
+
+    /// The same in a thread with a stack of 1 MiB: also the bytes of stack used.
+    fn seconds_on_stack(run: &mut (dyn FnMut() + Send)) -> (f64, usize) {
+        let stack = on_stack(STACK, run);
+        let mut least = 0.0;
+        on_stack(STACK, &mut || least = seconds(&mut *run));
+        (least, stack)
+    }
+
+    fn rules_of(bytes: &[u8]) -> Rules {
+        rules::read(bytes).expect("an accepted rule file")
+    }
+
+    /// Milliseconds, with about three figures.
+    fn ms(seconds: f64) -> String {
+        let ms = seconds * 1e3;
+        let places = if ms < 0.1 {
+            4
+        } else if ms < 1.0 {
+            3
+        } else if ms < 10.0 {
+            2
+        } else if ms < 100.0 {
+            1
+        } else {
+            0
+        };
+        format!("{ms:.places$}")
+    }
+
+    /// A ratio, with about three figures.
+    fn ratio(a: f64, b: f64) -> String {
+        let ratio = a / b;
+        let places = if ratio < 10.0 {
+            2
+        } else if ratio < 100.0 {
+            1
+        } else {
+            0
+        };
+        format!("{ratio:.places$}")
+    }
+
+    // -----------------------------------------------------------------------------------------
+    // Trees
+    // -----------------------------------------------------------------------------------------
+
+    /// Random clauses of three literals, three times as many as variables.
+    fn three_clauses(seed: u64, n: usize, randomized: impl Fn(usize) -> bool) -> RuleDraft {
+        let mut random = Random::new(seed + n as u64);
+        let clauses = (0..3 * n)
+            .map(|_| generate::clause(&mut random, n, 3))
+            .collect();
+        let pair = |v| {
+            if randomized(v) {
+                random.pick(&[[1, 1], [1, 2], [2, 1]])
+            } else {
+                [0, 0]
+            }
+        };
+        RuleDraft {
+            clauses,
+            prefix: (0..n).map(pair).collect(),
+        }
+    }
+
+    /// Places that hold or fail, randomized, come first; then for each of three things and each
+    /// place an existential variable "the thing is there". A thing is somewhere, in one place
+    /// only, in a place that holds, and shares it with no other.
+    fn placement(n: usize) -> RuleDraft {
+        const THINGS: usize = 3;
+        let places = n / (THINGS + 1);
+        let is_at = |thing: usize, place: usize| 2 * (places + thing * places + place) as u32;
+        let mut clauses = Vec::new();
+        for thing in 0..THINGS {
+            clauses.push((0..places).map(|place| is_at(thing, place)).collect());
+            for place in 0..places {
+                clauses.push(vec![2 * place as u32, is_at(thing, place) + 1]);
+                for other in 0..place {
+                    clauses.push(vec![is_at(thing, other) + 1, is_at(thing, place) + 1]);
+                }
+                for other in 0..thing {
+                    clauses.push(vec![is_at(other, place) + 1, is_at(thing, place) + 1]);
+                }
+            }
+        }
+        let mut prefix = vec![[0, 0]; n];
+        for (place, pair) in prefix.iter_mut().take(places).enumerate() {
+            *pair = [20 + place as u32, 1 + place as u32 % 3];
+        }
+        RuleDraft { clauses, prefix }
+    }
+
+    type Family = (&'static str, fn(usize) -> RuleDraft);
+
+    const FAMILIES: [Family; 5] = [
+        ("3-clauses, alternating", |n| {
+            three_clauses(1_000, n, |v| v % 2 == 1)
+        }),
+        ("3-clauses, blocks of 8", |n| {
+            three_clauses(2_000, n, |v| v / 8 % 2 == 1)
+        }),
+        ("all randomized", |n| three_clauses(3_000, n, |_| true)),
+        ("all existential", |n| three_clauses(4_000, n, |_| false)),
+        ("placement", placement),
+    ];
+
+    fn trees() {
+        println!("| family | n | m | operation | nodes | proved, ms | ns a node | walk, ms | proved / walk | tables, ms | proved / tables | stack, bytes |");
+        println!("|---|--:|--:|---|--:|--:|--:|--:|--:|--:|--:|--:|");
+        for (name, make) in FAMILIES {
+            let mut last = 0.0;
+            for n in [16, 20, 24, 28, 32] {
+                let file = make(n).bytes();
+                let rules = rules_of(&file);
+                let tables = Tables::new(&rules);
+                for level in [None, Some(n / 2)] {
+                    let nodes = tables.nodes(level.unwrap_or(n)) as f64;
+                    let operation =
+                        level.map_or("figure".to_string(), |level| format!("cut {level}"));
+                    let m = rules.clauses.len();
+                    let begin = format!("| {name} | {n} | {m} | {operation} | {nodes} |");
+                    if last * nodes * m as f64 > LONGEST {
+                        println!(
+                            "{begin} left out: about {:.0} s | | | | | | |",
+                            last * nodes * m as f64
+                        );
+                        continue;
+                    }
+                    let run = tree(&file, level);
+                    // Seconds for one clause at one node, to judge the next file by.
+                    last = run.proved / (nodes * m as f64);
+                    println!(
+                        "{begin} {} | {:.0} | {} | {} | {} | {} | {} |",
+                        ms(run.proved),
+                        run.proved * 1e9 / nodes,
+                        ms(run.walk),
+                        ratio(run.proved, run.walk),
+                        ms(run.tables),
+                        ratio(run.proved, run.tables),
+                        run.stack
+                    );
+                }
+            }
+        }
+    }
+
+    struct Run {
+        proved: f64,
+        walk: f64,
+        tables: f64,
+        stack: usize,
+    }
+
+    /// Times the figure, or the cut at a level, and compares the answers.
+    fn tree(file: &[u8], level: Option<usize>) -> Run {
+        let mut got = (0, [0; 4]);
+        let mut call = || {
+            got = match level {
+                None => plain::figure(black_box(file)),
+                Some(level) => plain::cut(black_box(file), level as u64),
+            }
+        };
+        let (proved, stack) = seconds_on_stack(&mut call);
+        let walk = seconds(|| {
+            let rules = rules_of(black_box(file));
+            let numbers = match level {
+                None => [walk::value(&rules).0, rules.whole() as u64, 0],
+                Some(level) => walk::cut(&rules, level).0,
+            };
+            assert_eq!(got, (0, [numbers[0], numbers[1], numbers[2], 0]));
+        });
+        let tables = seconds(|| {
+            let rules = rules_of(black_box(file));
+            let numbers = match level {
+                None => [Tables::new(&rules).value(), rules.whole(), 0],
+                Some(level) => Tables::down_to(&rules, level).cut(level),
+            };
+            assert_eq!(got.1[..3], numbers.map(|number| number as u64));
+        });
+        Run {
+            proved,
+            walk,
+            tables,
+            stack,
+        }
+    }
+
+    // -----------------------------------------------------------------------------------------
+    // Derivations
+    // -----------------------------------------------------------------------------------------
+
+    /// A derivation of 950 to 1,024 lines that the plain walk writes.
+    fn walked() -> (RuleDraft, DerivationDraft) {
+        let mut random = Random::new(5_000);
+        loop {
+            let n = random.within(11, 13);
+            let m = random.within(2 * n, 4 * n);
+            let clauses = (0..m)
+                .map(|_| generate::clause(&mut random, n, 3))
+                .collect();
+            let prefix = (0..n)
+                .map(|v| if v % 2 == 0 { [0, 0] } else { [2, 1] })
+                .collect();
+            let rule = RuleDraft { clauses, prefix };
+            let Some(draft) = generate::derivation(&rules_of(&rule.bytes()), 1_024) else {
+                continue;
+            };
+            if draft.lines.len() >= 950 && draft.bytes().len() <= 65_536 {
+                return (rule, draft);
+            }
+        }
+    }
+
+    /// 1,000 resolvents of parents taken at random from 1,000 clauses and the lines before; one
+    /// more closes.
+    fn wandered() -> (RuleDraft, DerivationDraft) {
+        let mut random = Random::new(6_000);
+        let n = 16;
+        let mut clauses: Vec<Vec<u32>> = (0..998)
+            .map(|_| generate::clause(&mut random, n, 3))
+            .collect();
+        clauses.extend([vec![0], vec![1]]);
+        let rule = RuleDraft {
+            clauses,
+            prefix: vec![[1, 1]; n],
+        };
+        let rules = rules_of(&rule.bytes());
+        let mut writer = Writer::new(&rules);
+        writer.most = 1_000;
+        writer.wander(&mut random, 1_000_000);
+        writer.most = 1_024;
+        let closing = writer
+            .write_resolvent(2 * 999, 2 * 998)
+            .expect("clauses {1} and {0}");
+        (rule, writer.finish(closing))
+    }
+
+    fn derivations() {
+        println!(
+            "| derivation | n | m | lines | bytes | proved, ms | ns a line | peer, ms | proved / peer | stack, bytes |"
+        );
+        println!("|---|--:|--:|--:|--:|--:|--:|--:|--:|--:|");
+        for (name, (rule, draft)) in [("plain walk", walked()), ("random resolvents", wandered())] {
+            let (file, steps) = (rule.bytes(), draft.bytes());
+            let mut got = (0, [0; 4]);
+            let (proved, stack) =
+                seconds_on_stack(&mut || got = plain::check(black_box(&file), black_box(&steps)));
+            let peer = seconds(|| {
+                let rules = rules_of(black_box(&file));
+                let value =
+                    derivation::check(&rules, black_box(&steps)).expect("an accepted derivation");
+                assert_eq!(got, (0, [value as u64, rules.whole() as u64, 0, 0]));
+            });
+            let lines = draft.lines.len();
+            println!(
+                "| {name} | {} | {} | {lines} | {} | {} | {:.0} | {} | {} | {stack} |",
+                rule.prefix.len(),
+                rule.clauses.len(),
+                steps.len(),
+                ms(proved),
+                proved * 1e9 / lines as f64,
+                ms(peer),
+                ratio(proved, peer),
+            );
+        }
+    }
+
+    pub fn main() {
+        trees();
+        println!();
+        derivations();
+    }
+}

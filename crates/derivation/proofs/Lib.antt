@@ -1,0 +1,9 @@
+-- Laws of the derivation file's definitions and of the check.
+pub mod StepLaws
+pub mod PlaceLaws
+pub mod LineLaws
+pub mod ParentLaws
+pub mod JudgeLaws
+pub mod ResolventLaws
+pub mod CheckLaws
+pub mod Theorems

@@ -1,0 +1,47 @@
+-- `line_fails` meets its contract: the literals are those of the line. Assumes nothing.
+use mathlib.Core.Path.{sym, _∙_}
+use native.Mathlib.Omega.{arith}
+use Rattle.formula.specs.Formula.{out-of-range, repeats}
+use Rattle.derivation.specs.Check.{line-fault}
+use Rattle.derivation.proofs.LineLaws.{derived-is, value-before}
+use Rattle.derivation.proofs.lines.line_fails.Statement.{statement}
+use Rattle.derivation.proofs.lines.line_fails.Tie as tie
+
+add-word : tie.Need-add-word
+add-word c = omega (arith, value-before (c .before .args .derivation .now) (c .before .args .i))
+
+word-requires : tie.Need-word-requires
+word-requires c κs = omega (arith, value-before (c .before .args .derivation .now) (c .before .args .i))
+
+add-out-of-range : tie.Need-add-out-of-range
+add-out-of-range c = omega (arith, value-before (c .before .before .args .derivation .now) (c .before .before .args .i))
+
+out-of-range-requires : tie.Need-out-of-range-requires
+out-of-range-requires c κs = omega (arith, value-before (c .before .before .args .derivation .now) (c .before .before .args .i), c .word .ensures .0)
+
+returns : tie.Need-returns
+unfolding line-fault
+returns c = rw (derived-is _ _, ← (c .before .before .word .ensures .0), sym (c .before .out-of-range .ensures) ∙ c .if1 .taken)
+
+add-repeats : tie.Need-add-repeats
+add-repeats c = omega (arith, value-before (c .before .before .before .before .args .derivation .now) (c .before .before .before .before .args .i))
+
+repeats-requires : tie.Need-repeats-requires
+repeats-requires c κs = omega (arith, value-before (c .before .before .before .before .args .derivation .now) (c .before .before .before .before .args .i), c .before .before .word .ensures .0)
+
+returns-2 : tie.Need-returns-2
+unfolding line-fault
+returns-2 c = rw (derived-is _ _, ← (c .before .before .before .word .ensures .0), sym (c .before .before .out-of-range .ensures) ∙ c .before .if1 .left) (c .repeats .ensures)
+
+pub line-fails-spec : {M : Type 1} → statement M
+line-fails-spec =
+    tie.close
+    (tie.spec
+    add-word
+    word-requires
+    add-out-of-range
+    out-of-range-requires
+    returns
+    add-repeats
+    repeats-requires
+    returns-2)

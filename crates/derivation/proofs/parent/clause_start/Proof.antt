@@ -1,0 +1,59 @@
+-- `clause_start` meets its contract. The loop keeps: where the clause at hand stands. Assumes nothing.
+use mathlib.Core.Path.{_≡_, ap, _∙_}
+use Prim.Native.Nat.{_+_, _-_, _≤_}
+use native.Mathlib.Omega.{arith}
+use Rattle.rule_file.specs.Words.{word-count}
+use Rattle.rule_file.specs.RuleFile.{after-clause}
+use Rattle.derivation.specs.Parent.{clause-start}
+use Rattle.derivation.proofs.ParentLaws.{clause-start-zero, clause-start-suc, clause-within}
+use Rattle.derivation.proofs.parent.clause_start.Statement.{statement}
+use Rattle.derivation.proofs.parent.clause_start.Tie as tie
+
+abbrev Inv-loop : tie.InvT-loop
+Inv-loop rule j clause₀ i₀ clause i = (clause ≤ j) × (i ≡ clause-start rule clause)
+
+abbrev μ-loop : tie.MeasureT-loop
+μ-loop rule j clause₀ i₀ clause i = j - clause
+
+-- the clause at hand stands in the file
+within : (c : tie.In-loop Inv-loop μ-loop) → after-clause (c .before .before .before .args .rule .now) (c .before .loop .i) ≤ word-count (c .before .before .before .args .rule .now)
+within c = rw (c .before .loop .inv .1) (clause-within _ (c .before .before .before .pre .0) _ (omega arith))
+
+loop-holds : tie.Need-loop-holds Inv-loop μ-loop
+loop-holds c = (omega arith, clause-start-zero _)
+
+add-i : tie.Need-add-i Inv-loop μ-loop
+add-i c = omega (arith, within c)
+
+word-requires : tie.Need-word-requires Inv-loop μ-loop
+word-requires c κs = omega (arith, within c)
+
+add-i-2 : tie.Need-add-i-2 Inv-loop μ-loop
+add-i-2 c = omega (arith, within (c .before), c .word .ensures .0)
+
+add-clause : tie.Need-add-clause Inv-loop μ-loop
+add-clause c = omega arith
+
+loop-less : tie.Need-loop-less Inv-loop μ-loop
+loop-less c = omega arith
+
+loop-again : tie.Need-loop-again Inv-loop μ-loop
+loop-again c = (omega arith, ap (λ k. c .before .before .loop .i + 1 + k) (c .word .ensures .0) ∙ ap (after-clause _) (c .before .before .loop .inv .1) ∙ clause-start-suc _ _)
+
+returns : tie.Need-returns Inv-loop μ-loop
+returns c = c .before .loop .inv .1 ∙ ap (clause-start _) (omega arith)
+
+pub clause-start-spec : {M : Type 1} → statement M
+clause-start-spec =
+    tie.close
+    (tie.spec
+    Inv-loop
+    μ-loop
+    loop-holds
+    add-i
+    word-requires
+    add-i-2
+    add-clause
+    loop-less
+    loop-again
+    returns)

@@ -1,0 +1,33 @@
+-- What a reference names, and where it stands: 2j is clause j of the rule file, 2j + 1 is line j of the derivation. Assumes nothing.
+use mathlib.Core.Bool.{Bool, cond}
+use mathlib.Core.List.{List, []}
+use Prim.Native.Nat.{ℕ, zero, suc, _/_, _%_}
+use lib.ListN.{getD}
+use lib.Dec.{ltb, eqb}
+use Rattle.rule_file.specs.RuleFile.{after-clause, clauses}
+use Rattle.resolution.specs.Resolution.{Annotated, derived, line-at}
+use Rattle.derivation.specs.DerivationFile.{after-line, lines}
+
+-- the word where clause j of the rule file begins
+unfoldable pub clause-start : List ℕ → ℕ → ℕ
+clause-start b zero = 0
+clause-start b (suc j) = after-clause b (clause-start b j)
+
+-- the word where line j of the derivation begins
+unfoldable pub line-start : List ℕ → ℕ → ℕ
+line-start d zero = 0
+line-start d (suc j) = after-line d (line-start d j)
+
+-- whether a reference names one of m clauses or one of the first k lines
+unfoldable pub is-named : ℕ → ℕ → ℕ → Bool
+is-named m k r = cond (eqb (r % 2) 0) (ltb (r / 2) m) (ltb (r / 2) k)
+
+-- the clause that it names: its literals, and its value, which is 0 for a clause of the rule file
+unfoldable pub referent-literals : List ℕ → List ℕ → ℕ → List ℕ
+referent-literals b d r = cond (eqb (r % 2) 0) (getD (clauses b) (r / 2) []) (derived (line-at (lines d) (r / 2)) .literals)
+
+unfoldable pub referent-value : List ℕ → ℕ → ℕ
+referent-value d r = cond (eqb (r % 2) 0) 0 (derived (line-at (lines d) (r / 2)) .value)
+
+abbrev pub referent : List ℕ → List ℕ → ℕ → Annotated
+referent b d r = record { literals = referent-literals b d r; value = referent-value d r }

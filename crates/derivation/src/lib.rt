@@ -1,0 +1,136 @@
+// Checks a derivation over a rule file, line by line, with document 01's refusals in their order.
+mod judge;
+mod lines;
+mod parent;
+mod parts;
+
+use crate::judge::judge_lines;
+use crate::lines::literal_fault;
+use crate::lines::walk_fault;
+use crate::parent::is_named;
+use crate::parent::parent;
+use crate::parent::parent_value;
+use rule_file::Header;
+use rule_file::Reading;
+use rule_file::read;
+use rule_file::words::word;
+ghost use mathlib.Core.Path.{_≡_};
+ghost use Rattle.rule_file.specs.RuleFile.{clauses, whole};
+ghost use Rattle.rule_file.specs.Accepted.{Accepted, header as header-of};
+ghost use Rattle.resolution.specs.Resolution.{closing-value};
+ghost use Rattle.derivation.specs.DerivationFile.{line-count, closing-reference, lines};
+ghost use Rattle.derivation.specs.Check.{checking, check-file, check-from-13, check-from-15, check-from-17, close};
+ghost use Rattle.derivation.specs.WellFormed.{Counted};
+ghost use Rattle.derivation.specs.Judging.{Readable};
+
+// The value of the empty clause that the derivation closes with, out of the whole.
+pub struct Closing {
+    pub value: u64,
+    pub whole: u64,
+}
+
+// A refusal's number, alone or with the line, or the closing value and the whole.
+pub enum Checking {
+    Refused(u32),
+    RefusedAt(u32, usize),
+    Accepted(Closing),
+}
+
+// A refusal's number and the first line that it applies to, where there is one.
+pub enum Fault {
+    Nothing,
+    At(u32, usize),
+}
+
+// Checks a derivation over a rule file, whatever the bytes of both are: the rule file's refusals, the derivation's, or
+// the closing value, which is the figure, and the whole.
+pub fn check<'a>(rule: &'a [u8], derivation: &'a [u8]) -> Checking
+    ensures answer { λ r. ⌜ checking r ≡ check-file (now (rule .entry)) (now (derivation .entry)) ⌝ }
+    ensures rule_unchanged { λ _. ⌜ now (rule .exit) ≡ now (rule .entry) ⌝ }
+    ensures derivation_unchanged { λ _. ⌜ now (derivation .exit) ≡ now (derivation .entry) ⌝ }
+{
+    match read(rule) {
+        Reading::Refused(number) => Checking::Refused(number),
+        Reading::Accepted(header) => check_counts(rule, derivation, header),
+    }
+}
+
+// 13 and on: the length and the counts.
+fn check_counts<'a>(rule: &'a [u8], derivation: &'a [u8], header: Header) -> Checking
+    requires { ⌜ Accepted (now rule) ⌝ }
+    requires { ⌜ header ≡ header-of (now rule) ⌝ }
+    ensures { λ r. ⌜ checking r ≡ check-from-13 (now (rule .entry)) (now (derivation .entry)) ⌝ }
+{
+    let length = derivation.len();
+    if length % 4 != 0 {
+        return Checking::Refused(13);
+    }
+    if length < 12 {
+        return Checking::Refused(13);
+    }
+    if 65536 < length {
+        return Checking::Refused(13);
+    }
+    let count = length / 4;
+    if word(derivation, count - 1) != count {
+        return Checking::Refused(14);
+    }
+    if 1024 < word(derivation, count - 3) {
+        return Checking::Refused(14);
+    }
+    check_structure(rule, derivation, header)
+}
+
+// 15 and on: the walk over the lines, and their literals.
+fn check_structure<'a>(rule: &'a [u8], derivation: &'a [u8], header: Header) -> Checking
+    requires { ⌜ Accepted (now rule) ⌝ }
+    requires { ⌜ header ≡ header-of (now rule) ⌝ }
+    requires { ⌜ Counted (now derivation) ⌝ }
+    ensures { λ r. ⌜ checking r ≡ check-from-15 (now (rule .entry)) (now (derivation .entry)) ⌝ }
+{
+    let end = derivation.len() / 4 - 3;
+    let count = word(derivation, end);
+    let walk = walk_fault(derivation, header.variables, end, count);
+    if let Fault::At(number, line) = walk {
+        return Checking::RefusedAt(number, line);
+    }
+    let literal = literal_fault(derivation, header.variables, count);
+    if let Fault::At(number, line) = literal {
+        return Checking::RefusedAt(number, line);
+    }
+    check_lines(rule, derivation, header, count)
+}
+
+// 17 and on: each line, then the closing reference.
+fn check_lines<'a>(rule: &'a [u8], derivation: &'a [u8], header: Header, count: usize) -> Checking
+    requires { ⌜ Readable (now rule) (now derivation) header ⌝ }
+    requires { ⌜ count ≡ line-count (now derivation) ⌝ }
+    ensures { λ r. ⌜ checking r ≡ check-from-17 (now (rule .entry)) (now (derivation .entry)) ⌝ }
+{
+    let fault = judge_lines(rule, derivation, header, count);
+    if let Fault::At(number, line) = fault {
+        return Checking::RefusedAt(number, line);
+    }
+    check_closing(rule, derivation, header, count)
+}
+
+// 21, or the value of the empty clause that the closing reference names.
+fn check_closing<'a>(rule: &'a [u8], derivation: &'a [u8], header: Header, count: usize) -> Checking
+    requires { ⌜ Readable (now rule) (now derivation) header ⌝ }
+    requires { ⌜ count ≡ line-count (now derivation) ⌝ }
+    ensures { λ r. ⌜ checking r ≡ close (closing-value (clauses (now (rule .entry))) (lines (now (derivation .entry))) (closing-reference (now (derivation .entry)))) (whole (now (rule .entry))) ⌝ }
+{
+    let reference = word(derivation, derivation.len() / 4 - 2);
+    if !is_named(reference, header.clauses, count) {
+        return Checking::Refused(21);
+    }
+    let c = parent(rule, derivation, reference);
+    if 4 <= c.len() {
+        return Checking::Refused(21);
+    }
+    let value = parent_value(derivation, reference);
+    Checking::Accepted(Closing {
+        value,
+        whole: header.whole,
+    })
+}

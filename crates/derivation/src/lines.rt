@@ -1,0 +1,104 @@
+// Checks 15 and 16, over the lines, and where a line stands.
+use crate::Fault;
+use rule_file::clauses::out_of_range;
+use rule_file::clauses::repeats;
+use rule_file::words::word;
+ghost use mathlib.Core.Path.{_≡_};
+ghost use mathlib.Core.Bool.{_||_};
+ghost use mathlib.Core.Option.{none};
+ghost use Prim.Native.Nat.{_+_, _≤_, _<_};
+ghost use lib.Dec.{eqb};
+ghost use Rattle.rule_file.specs.Words.{word-count};
+ghost use Rattle.rule_file.specs.Reader.{first};
+ghost use Rattle.derivation.specs.DerivationFile.{trailer-start, after-line, lines-from, line-of};
+ghost use Rattle.derivation.specs.Check.{line-fits, walk-lines, line-fault, numbered, fault};
+
+// The word after the line at word i. A literal count is any 32-bit number, and the sum is 64 bits wide.
+pub(crate) fn after_line(derivation: &[u8], i: usize) -> usize
+    requires { ⌜ i + 2 ≤ word-count (now derivation) ⌝ }
+    ensures { λ r. ⌜ r ≡ after-line (now (derivation .entry)) i ⌝ }
+{
+    let values = i + 2 + word(derivation, i + 1);
+    if word(derivation, i) == 1 {
+        values + 2
+    } else {
+        values + 5
+    }
+}
+
+// Whether a kind is 1 or 2.
+fn is_known(kind: usize) -> bool
+    ensures { λ r. ⌜ r ≡ eqb kind 1 || eqb kind 2 ⌝ }
+{
+    if kind == 1 { true } else { kind == 2 }
+}
+
+// Whether the line at word i ends before `end`, is of kind 1 or 2 and has at most n literals.
+fn line_fits(derivation: &[u8], n: usize, end: usize, i: usize) -> bool
+    requires { ⌜ end ≤ word-count (now derivation) ⌝ }
+    requires { ⌜ i ≤ end ⌝ }
+    ensures { λ r. ⌜ r ≡ line-fits (now (derivation .entry)) n end i ⌝ }
+{
+    if end < i + 2 {
+        return false;
+    }
+    if !is_known(word(derivation, i)) {
+        return false;
+    }
+    if n < word(derivation, i + 1) {
+        return false;
+    }
+    after_line(derivation, i) <= end
+}
+
+// Check 15: the first line of the walk of `count` lines from word 0 that does not fit before `end`, or `count` where
+// only the walk's end is wrong.
+pub(crate) fn walk_fault(derivation: &[u8], n: usize, end: usize, count: usize) -> Fault
+    requires { ⌜ end ≤ word-count (now derivation) ⌝ }
+    ensures { λ r. ⌜ fault r ≡ numbered 15 (walk-lines (now (derivation .entry)) n end count 0) ⌝ }
+{
+    let mut line = 0;
+    let mut i = 0;
+    while line < count {
+        if !line_fits(derivation, n, end, i) {
+            return Fault::At(15, line);
+        }
+        i = after_line(derivation, i);
+        line += 1;
+    }
+    if i != end {
+        return Fault::At(15, count);
+    }
+    Fault::Nothing
+}
+
+// Check 16 of one line.
+fn line_fails(derivation: &[u8], n: usize, i: usize) -> bool
+    requires { ⌜ after-line (now derivation) i ≤ word-count (now derivation) ⌝ }
+    requires { ⌜ n ≤ 32 ⌝ }
+    ensures { λ r. ⌜ r ≡ line-fault n (line-of (now (derivation .entry)) i) ⌝ }
+{
+    let k = word(derivation, i + 1);
+    if out_of_range(derivation, i + 2, k, n) {
+        return true;
+    }
+    repeats(derivation, i + 2, k)
+}
+
+// Check 16: the first line with a literal of 2n or more or with a variable twice.
+pub(crate) fn literal_fault(derivation: &[u8], n: usize, count: usize) -> Fault
+    requires { ⌜ n ≤ 32 ⌝ }
+    requires { ⌜ walk-lines (now derivation) n (trailer-start (now derivation)) count 0 ≡ none ⌝ }
+    ensures { λ r. ⌜ fault r ≡ numbered 16 (first (line-fault n) (lines-from (now (derivation .entry)) count 0)) ⌝ }
+{
+    let mut line = 0;
+    let mut i = 0;
+    while line < count {
+        if line_fails(derivation, n, i) {
+            return Fault::At(16, line);
+        }
+        i = after_line(derivation, i);
+        line += 1;
+    }
+    Fault::Nothing
+}

@@ -1,0 +1,87 @@
+/* SSAT: stochastic Boolean satisfiability, on rule files and derivation files.
+ *
+ * The five functions read the files of document 01. Each returns 0 for an
+ * answer, else the number of the refusal. The answer depends on the arguments alone; several
+ * threads may call at once.
+ *
+ * Buffers
+ *   rule, derivation   lent for reading only: no byte of them changes. `rule` holds `len` bytes
+ *                      and `derivation` holds `dlen` bytes, of any content and any alignment;
+ *                      no byte past them is read. The pointers are not null, even where the
+ *                      length is 0.
+ *   out                four numbers, lent for writing; not null, aligned, and no part of the
+ *                      other buffers.
+ *     answer           the numbers named below stand in `out` from index 0; the rest is set to 0.
+ *     refusal          `out` is unchanged, except that 15 to 20 put the number of the first line
+ *                      at fault into out[0].
+ *
+ * Refusals of the rule file, by every function:
+ *    1  length not a multiple of 4, under 16 or over 65,536 bytes
+ *    2  the last word is not the word count
+ *    3  more than 32 variables or more than 1,024 clauses
+ *    4  the prefix does not end where the trailer begins
+ *    5  a clause reaches past the prefix start or has more literals than there are variables,
+ *       or the clauses do not end at the prefix start
+ *    6  a literal out of range
+ *    7  a variable twice in one clause
+ *    8  a weight over 65,535, or one weight 0 and the other not
+ *    9  the whole is over 2^60
+ * Refusals of the limits and the level:
+ *   10  lo over hi
+ *   11  hi over the whole
+ *   12  the level is over the number of variables
+ * Refusals of the derivation:
+ *   13  length not a multiple of 4, under 12 or over 65,536 bytes
+ *   14  the last word is not the word count, or more than 1,024 lines
+ *   15  a line of no kind, with too many literals or past the trailer's start, or lines that do
+ *       not end there (then the line is the line count)
+ *   16  in a line, a literal out of range or a variable twice
+ *   17  a kind 1 line that does not meet some clause
+ *   18  a kind 2 line whose variable or parent does not exist, or whose parent is not earlier
+ *   19  a kind 2 line whose literals are not its parents'
+ *   20  a line with a wrong value
+ *   21  the closing reference names nothing, or a clause or line with literals
+ * The first that applies is returned, in this order; 17 to 20 line by line.
+ */
+
+#ifndef SSAT_H
+#define SSAT_H
+
+#include <stddef.h>
+#include <stdint.h>
+
+#ifdef __cplusplus
+extern "C" {
+#endif
+
+/* Reads a rule file.
+ * out: number of variables, number of clauses, word where the prefix begins, whole.
+ * Refusals: 1 to 9. */
+uint32_t ssat_read(const uint8_t *rule, size_t len, uint64_t out[4]);
+
+/* The value of the formula, out of the whole.
+ * out: value, whole, 0, 0.
+ * Refusals: 1 to 9. */
+uint32_t ssat_figure(const uint8_t *rule, size_t len, uint64_t out[4]);
+
+/* Compares the value with the limits lo and hi, both out of the whole.
+ * out: 0 and the value where lo <= value <= hi; 1 and 0 where it is above hi; 2 and 0 where it
+ * is below lo; then 0, 0.
+ * Refusals: 1 to 9, 10, 11. */
+uint32_t ssat_verdict(const uint8_t *rule, size_t len, uint64_t lo, uint64_t hi, uint64_t out[4]);
+
+/* Bounds on the value with only the first `level` variables set.
+ * out: lower number, upper number, open weight, 0; all out of the whole.
+ * Refusals: 1 to 9, 12. */
+uint32_t ssat_cut(const uint8_t *rule, size_t len, uint64_t level, uint64_t out[4]);
+
+/* Checks a derivation over a rule file.
+ * out: closing value, whole, 0, 0.
+ * Refusals: 1 to 9 for the rule file, 13 to 21; 15 to 20 put the line into out[0]. */
+uint32_t ssat_check(const uint8_t *rule, size_t len, const uint8_t *derivation, size_t dlen, uint64_t out[4]);
+
+#ifdef __cplusplus
+}
+#endif
+
+#endif
