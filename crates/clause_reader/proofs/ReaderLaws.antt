@@ -11,7 +11,7 @@ use lib.ListN.{length, drop, getD}
 use lib.Seq.{getD-drop, drop-drop}
 use borrow.Author.Tests.{lt-ltb, le-leb, le-ltb}
 use Rattle.rule_file.specs.Words.{word, word-count, words}
-use Rattle.rule_file.specs.RuleFile.{clause-count, variable-count, prefix-start, after-clause, clauses, clauses-from}
+use Rattle.rule_file.specs.RuleFile.{clause-count, variable-count, prefix-start, after-clause, clauses, clauses-from, clause-start}
 use Rattle.rule_file.specs.Answer.{refused}
 use Rattle.rule_file.specs.Reader.{read-file, walk}
 use Rattle.rule_file.specs.Accepted.{Accepted}
@@ -19,7 +19,7 @@ use Rattle.rule_file.proofs.WalkLaws.{walked-fits, walked-rest, clauses-step}
 use Rattle.rule_file.proofs.AcceptedLaws.{accepted-answers}
 use Rattle.clause_reader.proofs.CursorLaws.{advance-stays}
 use Rattle.clause_reader.proofs.LiteralsLaws.{all-words}
-use Rattle.clause_reader.specs.Cursor.{first, start, stands, clause-at, past, advance, nth, literals-of, clause-start}
+use Rattle.clause_reader.specs.Cursor.{first, start, stands, clause-at, past, advance, nth, literals-of}
 use Rattle.clause_reader.specs.declared.cursor.Cursor.{Cursor}
 use Rattle.clause_reader.specs.declared.cursor.Cursor.the-variants as cursor
 use Rattle.clause_reader.specs.declared.cursor.Step.the-variants as step

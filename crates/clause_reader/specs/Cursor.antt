@@ -56,8 +56,3 @@ abbrev pub literals-of : List ℕ → Step → List ℕ
 literals-of b (step.Refused k) = []
 literals-of b (step.Clause number start length next) = literals b start length
 literals-of b step.Done = []
-
--- the word where clause j stands, by a walk from word 0
-unfoldable pub clause-start : List ℕ → ℕ → ℕ
-clause-start b zero = 0
-clause-start b (suc j) = after-clause b (clause-start b j)

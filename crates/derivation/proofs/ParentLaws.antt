@@ -12,14 +12,14 @@ use lib.Seq.{length-take-le, getD-take, getD-drop}
 use lib.Dec.{ltb, eqb}
 use borrow.Author.Tests.{eq-eqb, ne-eqb, ltb-true, lt-ltb}
 use Rattle.rule_file.specs.Words.{word, word-count, words}
-use Rattle.rule_file.specs.RuleFile.{clause-count, variable-count, prefix-start, after-clause, clauses-from, clauses}
+use Rattle.rule_file.specs.RuleFile.{clause-count, variable-count, prefix-start, after-clause, clauses-from, clauses, clause-start}
 use Rattle.rule_file.specs.Reader.{walk}
 use Rattle.rule_file.specs.Accepted.{Accepted}
 use Rattle.rule_file.proofs.WalkLaws.{walked-fits, walked-rest}
 use Rattle.resolution.specs.Resolution.{derived, clause-at, line-at, some-if, lookup}
 use Rattle.literals.specs.Literals.{literals-of}
 use Rattle.derivation.specs.DerivationFile.{line-count, size, value-start, value-at, clause-of, lines}
-use Rattle.derivation.specs.Parent.{clause-start, line-start, is-named, referent-literals, referent-value, referent}
+use Rattle.derivation.specs.Parent.{line-start, is-named, referent-literals, referent-value, referent}
 use Rattle.derivation.proofs.LineLaws.{line-is, derived-is}
 use Rattle.derivation.proofs.StepLaws.{kept, element, elements}
 

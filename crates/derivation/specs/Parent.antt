@@ -4,14 +4,9 @@ use mathlib.Core.List.{List, []}
 use Prim.Native.Nat.{ℕ, zero, suc, _/_, _%_}
 use lib.ListN.{getD}
 use lib.Dec.{ltb, eqb}
-use Rattle.rule_file.specs.RuleFile.{after-clause, clauses}
+use Rattle.rule_file.specs.RuleFile.{clauses}
 use Rattle.resolution.specs.Resolution.{Annotated, derived, line-at}
 use Rattle.derivation.specs.DerivationFile.{after-line, lines}
-
--- the word where clause j of the rule file begins
-unfoldable pub clause-start : List ℕ → ℕ → ℕ
-clause-start b zero = 0
-clause-start b (suc j) = after-clause b (clause-start b j)
 
 -- the word where line j of the derivation begins
 unfoldable pub line-start : List ℕ → ℕ → ℕ

@@ -7,12 +7,12 @@ use rule_file::words::word;
 ghost use mathlib.Core.Path.{_≡_};
 ghost use mathlib.Core.Bool.{true};
 ghost use Prim.Native.Nat.{_/_, _%_, _≤_, _<_};
-ghost use Rattle.rule_file.specs.RuleFile.{clause-count};
+ghost use Rattle.rule_file.specs.RuleFile.{clause-count, clause-start};
 ghost use Rattle.rule_file.specs.Accepted.{Accepted};
 ghost use Rattle.literals.specs.Literals.{literals-of};
 ghost use Rattle.derivation.specs.DerivationFile.{line-count};
 ghost use Rattle.derivation.specs.WellFormed.{Walked};
-ghost use Rattle.derivation.specs.Parent.{clause-start, line-start, is-named, referent-literals, referent-value};
+ghost use Rattle.derivation.specs.Parent.{line-start, is-named, referent-literals, referent-value};
 
 // The word where clause j of the rule file begins.
 fn clause_start(rule: &[u8], j: usize) -> usize

@@ -23,6 +23,11 @@ stated-count b = word b (word-count b - 1)
 abbrev pub after-clause : List ℕ → ℕ → ℕ
 after-clause b i = i + 1 + word b i
 
+-- the word where clause j stands, by a walk from word 0
+unfoldable pub clause-start : List ℕ → ℕ → ℕ
+clause-start b zero = 0
+clause-start b (suc j) = after-clause b (clause-start b j)
+
 -- the clauses from word i on, as many as are left
 unfoldable pub clauses-from : List ℕ → ℕ → ℕ → List (List ℕ)
 clauses-from b zero i = []

@@ -3,8 +3,7 @@ use mathlib.Core.Path.{_≡_, ap, _∙_}
 use Prim.Native.Nat.{_+_, _-_, _≤_}
 use native.Mathlib.Omega.{arith}
 use Rattle.rule_file.specs.Words.{word-count}
-use Rattle.rule_file.specs.RuleFile.{after-clause}
-use Rattle.derivation.specs.Parent.{clause-start}
+use Rattle.rule_file.specs.RuleFile.{after-clause, clause-start}
 use Rattle.derivation.proofs.ParentLaws.{clause-start-zero, clause-start-suc, clause-within}
 use Rattle.derivation.proofs.parent.clause_start.Statement.{statement}
 use Rattle.derivation.proofs.parent.clause_start.Tie as tie
