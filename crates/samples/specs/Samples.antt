@@ -6,6 +6,8 @@ use Rattle.value.specs.declared.Ratio.{Ratio}
 use Rattle.value.specs.Value.{figure-file, Verdict, above, below, within, verdict-file}
 use Rattle.bounds.specs.declared.Bounds.{Bounds}
 use Rattle.bounds.specs.Cut.{cut-file}
+use Rattle.derivation.specs.declared.Closing.{Closing}
+use Rattle.derivation.specs.Check.{check-file}
 
 -- a file's bytes from its 32-bit words, least byte first
 unfoldable pub file : List ℕ → List ℕ
@@ -16,17 +18,20 @@ pub data Question : Type 0 where
   figure : List ℕ → Question
   verdict : List ℕ → ℕ → ℕ → Question
   cut : List ℕ → ℕ → Question
+  check : List ℕ → List ℕ → Question
 
 pub data Outcome : Type 0 where
   figured : Answer Ratio → Outcome
   judged : Answer Verdict → Outcome
   bounded : Answer Bounds → Outcome
+  checked : Answer Closing → Outcome
 
 -- what the operation answers, by the definition that its contract cites
 unfoldable pub ask : Question → Outcome
 ask (figure ws) = figured (figure-file (file ws))
 ask (verdict ws lo hi) = judged (verdict-file (file ws) lo hi)
 ask (cut ws level) = bounded (cut-file (file ws) level)
+ask (check ws ds) = checked (check-file (file ws) (file ds))
 
 -- a figure out of a whole
 abbrev out-of : ℕ → ℕ → Outcome
@@ -42,6 +47,16 @@ sample q o = record { question = q; outcome = o }
 -- document 01's example file, that of source document 004
 abbrev example : List ℕ
 example = 2 ∷ 0 ∷ 2 ∷ 1 ∷ 3 ∷ 2 ∷ 2 ∷ 4 ∷ 4 ∷ 1 ∷ 0 ∷ 0 ∷ 3 ∷ 7 ∷ 3 ∷ 3 ∷ 8 ∷ 18 ∷ []
+
+-- its derivation
+abbrev derivation : List ℕ
+derivation =
+    1 ∷ 3 ∷ 1 ∷ 2 ∷ 5 ∷ 1 ∷ 0 ∷
+    2 ∷ 2 ∷ 1 ∷ 2 ∷ 3 ∷ 0 ∷ 2 ∷ 1 ∷ 4 ∷
+    2 ∷ 1 ∷ 1 ∷ 3 ∷ 0 ∷ 1 ∷ 2 ∷ 3 ∷
+    2 ∷ 1 ∷ 0 ∷ 0 ∷ 0 ∷ 1 ∷ 2 ∷ 0 ∷
+    2 ∷ 0 ∷ 12 ∷ 0 ∷ 0 ∷ 5 ∷ 7 ∷
+    5 ∷ 9 ∷ 42 ∷ []
 
 unfoldable pub samples : List Sample
 samples =
@@ -65,4 +80,6 @@ samples =
     sample (verdict example 0 11) (judged (answer above)) ∷
     -- P11: its cut at level 2
     sample (cut example 2) (bounded (answer (record { lower = 0; upper = 40; undetermined = 40 }))) ∷
+    -- P12: its derivation
+    sample (check example derivation) (checked (answer (record { value = 12; whole = 50 }))) ∷
     []

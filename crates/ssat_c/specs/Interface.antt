@@ -9,6 +9,7 @@ use Rattle.rule_file.specs.declared.Header.{Header}
 use Rattle.value.specs.declared.Ratio.{Ratio}
 use Rattle.value.specs.Value.{Verdict, above, below, within}
 use Rattle.bounds.specs.declared.Bounds.{Bounds}
+use Rattle.derivation.specs.declared.Closing.{Closing}
 
 -- 0 for an answer, else document 01's number
 abbrev pub code : {A : Type 0} → Answer A → ℕ
@@ -37,3 +38,6 @@ verdict-values (within x) = 0 ∷ x ∷ 0 ∷ 0 ∷ []
 
 abbrev pub bounds-values : Bounds → List ℕ
 bounds-values x = x .lower ∷ x .upper ∷ x .undetermined ∷ 0 ∷ []
+
+abbrev pub closing-values : Closing → List ℕ
+closing-values x = x .value ∷ x .whole ∷ 0 ∷ 0 ∷ []

@@ -2,6 +2,8 @@
 // lends. include/ssat.h declares them.
 use bounds::Cutting;
 use bounds::cut;
+use derivation::Checking;
+use derivation::check;
 use rule_file::Reading;
 use rule_file::read;
 use value::Figuring;
@@ -14,7 +16,8 @@ ghost use mathlib.Core.List.{[], _∷_};
 ghost use Rattle.rule_file.specs.Reader.{read-file};
 ghost use Rattle.value.specs.Value.{figure-file, verdict-file};
 ghost use Rattle.bounds.specs.Cut.{cut-file};
-ghost use Rattle.ssat_c.specs.Interface.{code, filled, header-values, ratio-values, verdict-values, bounds-values};
+ghost use Rattle.derivation.specs.Check.{check-file};
+ghost use Rattle.ssat_c.specs.Interface.{code, filled, header-values, ratio-values, verdict-values, bounds-values, closing-values};
 
 // An answer fills out and returns 0.
 fn fill(out: &mut [u64; 4], a: u64, b: u64, c: u64, d: u64) -> u32
@@ -85,5 +88,23 @@ pub extern "C" fn ssat_cut(rule: &[u8], level: u64, out: &mut [u64; 4]) -> u32
     match cut(rule, level) {
         Cutting::Refused(number) => number,
         Cutting::Answered(x) => fill(out, x.lower, x.upper, x.undetermined, 0),
+    }
+}
+
+// Closing value, whole. A refusal of a line stores the line's number.
+#[no_mangle]
+pub extern "C" fn ssat_check<'a>(rule: &'a [u8], derivation: &'a [u8], out: &mut [u64; 4]) -> u32
+    ensures returned { λ r. ⌜ r ≡ code (check-file (now (rule .entry)) (now (derivation .entry))) ⌝ }
+    ensures stored { λ _. ⌜ now (out .exit) ≡ filled closing-values (check-file (now (rule .entry)) (now (derivation .entry))) (now (out .entry)) ⌝ }
+    ensures rule_unchanged { λ _. ⌜ now (rule .exit) ≡ now (rule .entry) ⌝ }
+    ensures derivation_unchanged { λ _. ⌜ now (derivation .exit) ≡ now (derivation .entry) ⌝ }
+{
+    match check(rule, derivation) {
+        Checking::Refused(number) => number,
+        Checking::RefusedAt(number, line) => {
+            out[0] = line as u64;
+            number
+        }
+        Checking::Accepted(x) => fill(out, x.value, x.whole, 0, 0),
     }
 }

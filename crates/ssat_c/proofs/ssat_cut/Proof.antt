@@ -1,3 +1,4 @@
+-- `ssat_cut` meets its contract: each case of the cut's answer is handed over. Assumes nothing.
 use mathlib.Core.Path.{refl, sym, ap, _∙_}
 use Rattle.bounds.specs.Cut.{cutting}
 use Rattle.ssat_c.specs.Interface.{bounds-values}

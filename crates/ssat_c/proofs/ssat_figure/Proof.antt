@@ -1,3 +1,4 @@
+-- `ssat_figure` meets its contract: each case of the figure's answer is handed over. Assumes nothing.
 use mathlib.Core.Path.{refl, sym, ap, _∙_}
 use Rattle.value.specs.Value.{figuring}
 use Rattle.ssat_c.specs.Interface.{ratio-values}

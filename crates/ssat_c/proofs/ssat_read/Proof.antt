@@ -1,3 +1,4 @@
+-- `ssat_read` meets its contract: each case of the reader's answer is handed over. Assumes nothing.
 use mathlib.Core.Path.{refl, sym, ap, _∙_}
 use Rattle.rule_file.specs.Reader.{reading}
 use Rattle.ssat_c.specs.Interface.{header-values}

@@ -1,3 +1,4 @@
+-- `ssat_verdict` meets its contract: each case of the verdict's answer is handed over. Assumes nothing.
 use mathlib.Core.Path.{refl, sym, ap, _∙_}
 use Rattle.value.specs.Value.{judging}
 use Rattle.ssat_c.specs.Interface.{verdict-values}
