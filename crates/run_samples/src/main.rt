@@ -1,0 +1,155 @@
+// Runs document 01's samples. Standard input is a row of records: the operation (1 read, 2 figure, 3 verdict, 4 cut,
+// 5 check), a 32-bit word; the verdict's two limits, or the cut's level and 0, two words each; the lengths of the rule
+// file and of the derivation, a word each; then the two files. Each record is answered by a line: the refusal's number,
+// with the line of the derivation where one is given, or 0 and the values.
+use bounds::Cutting;
+use bounds::cut;
+use derivation::Checking;
+use derivation::check;
+use libc::STDIN_FILENO;
+use libc::STDOUT_FILENO;
+use rule_file::Reading;
+use rule_file::read;
+use rule_file::words::word;
+use value::Figuring;
+use value::Judging;
+use value::figure;
+use value::verdict;
+ghost use Prim.Native.Nat.{_<_};
+ghost use Rattle.io.specs.Counts.{Counts};
+
+// Some bytes more than a file may have, so that the operations see what is too long.
+const ROOM: usize = 65544;
+
+fn put(text: &[u8]) {
+    io::write_all(STDOUT_FILENO, text);
+}
+
+fn put_number(number: u32) {
+    io::print_decimal(STDOUT_FILENO, number as u64);
+}
+
+fn put_value(value: u64) {
+    put(b" ");
+    io::print_decimal(STDOUT_FILENO, value);
+}
+
+fn put_reading(rule: &[u8]) {
+    match read(rule) {
+        Reading::Refused(number) => put_number(number),
+        Reading::Accepted(header) => {
+            put_number(0);
+            put_value(header.variables as u64);
+            put_value(header.clauses as u64);
+            put_value(header.prefix as u64);
+            put_value(header.whole);
+        }
+    }
+}
+
+fn put_figure(rule: &[u8]) {
+    match figure(rule) {
+        Figuring::Refused(number) => put_number(number),
+        Figuring::Answered(ratio) => {
+            put_number(0);
+            put_value(ratio.figure);
+            put_value(ratio.whole);
+        }
+    }
+}
+
+fn put_verdict(rule: &[u8], lo: u64, hi: u64) {
+    match verdict(rule, lo, hi) {
+        Judging::Refused(number) => put_number(number),
+        Judging::Above => put(b"0 above"),
+        Judging::Below => put(b"0 below"),
+        Judging::Within(figure) => {
+            put(b"0 within");
+            put_value(figure);
+        }
+    }
+}
+
+fn put_cut(rule: &[u8], level: u64) {
+    match cut(rule, level) {
+        Cutting::Refused(number) => put_number(number),
+        Cutting::Answered(bounds) => {
+            put_number(0);
+            put_value(bounds.lower);
+            put_value(bounds.upper);
+            put_value(bounds.undetermined);
+        }
+    }
+}
+
+fn put_checking<'a>(rule: &'a [u8], derivation: &'a [u8]) {
+    match check(rule, derivation) {
+        Checking::Refused(number) => put_number(number),
+        Checking::RefusedAt(number, line) => {
+            put_number(number);
+            put_value(line as u64);
+        }
+        Checking::Accepted(closing) => {
+            put_number(0);
+            put_value(closing.value);
+            put_value(closing.whole);
+        }
+    }
+}
+
+fn put_answer<'a>(operation: usize, a: u64, b: u64, rule: &'a [u8], derivation: &'a [u8]) {
+    match operation {
+        1 => put_reading(rule),
+        2 => put_figure(rule),
+        3 => put_verdict(rule, a, b),
+        4 => put_cut(rule, a),
+        5 => put_checking(rule, derivation),
+        _ => put(b"no operation"),
+    }
+    put(b"\n");
+}
+
+// The number in words i and i + 1 of a record.
+fn long(head: &[u8; 28], i: usize) -> u64
+    requires { ⌜ i < 6 ⌝ }
+{
+    word(head, i) as u64 + 4294967296 * (word(head, i + 1) as u64)
+}
+
+// Reads a file of so many bytes to the start of `room`, as far as there are bytes and room; how many there were.
+fn read_file(length: usize, room: &mut [u8]) -> usize
+    ensures { λ r. ⌜ Counts r (now (room .exit)) ⌝ }
+{
+    if room.len() < length {
+        return io::read_full(STDIN_FILENO, room);
+    }
+    io::read_full(STDIN_FILENO, &mut room[..length])
+}
+
+// Answers the next record; false where there is none.
+fn answer_next() -> bool {
+    let mut head = [0; 28];
+    if io::read_full(STDIN_FILENO, &mut head) < 28 {
+        return false;
+    }
+    let mut rule = [0; ROOM];
+    let mut derivation = [0; ROOM];
+    let r = read_file(word(&head, 5), &mut rule);
+    let d = read_file(word(&head, 6), &mut derivation);
+    put_answer(
+        word(&head, 0),
+        long(&head, 1),
+        long(&head, 3),
+        &rule[..r],
+        &derivation[..d],
+    );
+    true
+}
+
+// The count only makes the loop end, whatever the input: no list of samples is so long.
+fn main() {
+    let mut records: usize = 100000;
+    while 0 < records && answer_next() {
+        records -= 1;
+    }
+}

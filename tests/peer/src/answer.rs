@@ -1,0 +1,134 @@
+//! The five operations, as the C interface answers them.
+
+use crate::derivation;
+use crate::enumerate;
+use crate::rules::{self, Rules};
+use crate::tables::Tables;
+
+/// With at most this many variables the answers come from full enumeration.
+pub const SMALL: usize = 7;
+
+/// A return value, and the numbers that go to `out` from index 0: the answer's for 0, the
+/// line's for 15 to 20, else none.
+#[derive(Clone, Debug, PartialEq, Eq)]
+pub struct Answer {
+    pub code: u32,
+    pub numbers: Vec<u64>,
+}
+
+impl Answer {
+    pub fn refused(code: u32) -> Answer {
+        Answer { code, numbers: Vec::new() }
+    }
+
+    pub fn numbers(numbers: &[u128]) -> Answer {
+        let small = |&number: &u128| u64::try_from(number).expect("every number is at most the whole");
+        Answer { code: 0, numbers: numbers.iter().map(small).collect() }
+    }
+
+    /// The content of `out` after the call: an answer sets what it does not fill to 0, a
+    /// refusal leaves it.
+    pub fn out(&self, before: [u64; 4]) -> [u64; 4] {
+        let mut out = if self.code == 0 { [0; 4] } else { before };
+        out[..self.numbers.len()].copy_from_slice(&self.numbers);
+        out
+    }
+}
+
+/// Answers for one rule file.
+pub struct Solver<'a> {
+    rules: &'a Result<Rules, u32>,
+    tables: Option<Tables<'a>>,
+}
+
+impl<'a> Solver<'a> {
+    pub fn new(rules: &'a Result<Rules, u32>) -> Solver<'a> {
+        let tables = match rules {
+            Ok(rules) if rules.n() > SMALL => Some(Tables::new(rules)),
+            _ => None,
+        };
+        Solver { rules, tables }
+    }
+
+    /// The value of an accepted file.
+    fn value(&self, rules: &Rules) -> u128 {
+        match &self.tables {
+            Some(tables) => tables.value(),
+            None => enumerate::value(rules),
+        }
+    }
+
+    /// A bound on the nodes of the plain tree that stops at met and lost nodes; 0 for a refused
+    /// file.
+    pub fn nodes(&self) -> u128 {
+        match (self.rules, &self.tables) {
+            (Ok(rules), Some(tables)) => tables.nodes(rules.n()),
+            (Ok(rules), None) => 2 << rules.n(),
+            (Err(_), _) => 0,
+        }
+    }
+
+    /// Answers with the file's refusal or by `answer`.
+    fn with(&self, answer: impl FnOnce(&Rules) -> Answer) -> Answer {
+        match self.rules {
+            Ok(rules) => answer(rules),
+            Err(number) => Answer::refused(*number),
+        }
+    }
+
+    pub fn read(&self) -> Answer {
+        self.with(|rules| {
+            let counts = [rules.n(), rules.clauses.len(), rules.prefix_start].map(|count| count as u128);
+            Answer::numbers(&[counts[0], counts[1], counts[2], rules.whole()])
+        })
+    }
+
+    pub fn figure(&self) -> Answer {
+        self.with(|rules| Answer::numbers(&[self.value(rules), rules.whole()]))
+    }
+
+    pub fn verdict(&self, lo: u64, hi: u64) -> Answer {
+        self.with(|rules| {
+            let (lo, hi) = (u128::from(lo), u128::from(hi));
+            if lo > hi {
+                return Answer::refused(10);
+            }
+            if hi > rules.whole() {
+                return Answer::refused(11);
+            }
+            let value = self.value(rules);
+            if value > hi {
+                Answer::numbers(&[1, 0])
+            } else if value < lo {
+                Answer::numbers(&[2, 0])
+            } else {
+                Answer::numbers(&[0, value])
+            }
+        })
+    }
+
+    pub fn cut(&self, level: u64) -> Answer {
+        self.with(|rules| {
+            if level > rules.n() as u64 {
+                return Answer::refused(12);
+            }
+            let level = level as usize;
+            Answer::numbers(&match &self.tables {
+                Some(tables) => tables.cut(level),
+                None => enumerate::cut(rules, level),
+            })
+        })
+    }
+
+    pub fn check(&self, bytes: &[u8]) -> Answer {
+        self.with(|rules| match derivation::check(rules, bytes) {
+            Ok(value) => Answer::numbers(&[value, rules.whole()]),
+            Err((code, line)) => Answer { code, numbers: line.map(|line| line as u64).into_iter().collect() },
+        })
+    }
+}
+
+/// Reads a rule file and answers one operation; for tests and samples.
+pub fn answer(rule: &[u8], operation: impl FnOnce(&Solver) -> Answer) -> Answer {
+    operation(&Solver::new(&rules::read(rule)))
+}

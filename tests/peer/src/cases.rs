@@ -1,0 +1,63 @@
+//! Run samples: a rule file, an operation and the answer that it must give. The program `run_samples` takes them as
+//! records and answers each by a line.
+
+use crate::answer::{answer, Answer, Solver};
+use crate::to_bytes;
+
+#[derive(Clone, Debug, PartialEq, Eq)]
+pub enum Operation {
+    Read,
+    Figure,
+    Verdict(u64, u64),
+    Cut(u64),
+    Check(Vec<u8>),
+}
+
+#[derive(Clone, Debug, PartialEq, Eq)]
+pub struct Case {
+    pub name: String,
+    pub rule: Vec<u8>,
+    pub operation: Operation,
+    pub expected: Answer,
+}
+
+impl Case {
+    /// The peer's own answer.
+    pub fn solve(&self) -> Answer {
+        answer(&self.rule, |solver: &Solver| match &self.operation {
+            Operation::Read => solver.read(),
+            Operation::Figure => solver.figure(),
+            Operation::Verdict(lo, hi) => solver.verdict(*lo, *hi),
+            Operation::Cut(level) => solver.cut(*level),
+            Operation::Check(derivation) => solver.check(derivation),
+        })
+    }
+
+    /// The case as a record of the program `run_samples`, which says the form.
+    pub fn record(&self) -> Vec<u8> {
+        let (operation, a, b, derivation): (u32, u64, u64, &[u8]) = match &self.operation {
+            Operation::Read => (1, 0, 0, &[]),
+            Operation::Figure => (2, 0, 0, &[]),
+            Operation::Verdict(lo, hi) => (3, *lo, *hi, &[]),
+            Operation::Cut(level) => (4, *level, 0, &[]),
+            Operation::Check(derivation) => (5, 0, 0, derivation),
+        };
+        let mut record = to_bytes(&[operation]);
+        record.extend([a, b].iter().flat_map(|number| number.to_le_bytes()));
+        record.extend(to_bytes(&[self.rule.len() as u32, derivation.len() as u32]));
+        record.extend(&self.rule);
+        record.extend(derivation);
+        record
+    }
+
+    /// The line that `run_samples` must write for it.
+    pub fn line(&self) -> String {
+        let Answer { code, numbers } = &self.expected;
+        match (&self.operation, &numbers[..]) {
+            (Operation::Verdict(..), [1, _]) => format!("{code} above\n"),
+            (Operation::Verdict(..), [2, _]) => format!("{code} below\n"),
+            (Operation::Verdict(..), [_, figure]) => format!("{code} within {figure}\n"),
+            _ => numbers.iter().fold(code.to_string(), |line, number| format!("{line} {number}")) + "\n",
+        }
+    }
+}

@@ -1,0 +1,175 @@
+//! The proved solver through its C interface, with buffers that end or begin at a guard page.
+
+use crate::guard::Guarded;
+
+mod raw {
+    extern "C" {
+        pub fn ssat_read(rule: *const u8, len: usize, out: *mut u64) -> u32;
+        pub fn ssat_figure(rule: *const u8, len: usize, out: *mut u64) -> u32;
+        pub fn ssat_verdict(rule: *const u8, len: usize, lo: u64, hi: u64, out: *mut u64) -> u32;
+        pub fn ssat_cut(rule: *const u8, len: usize, level: u64, out: *mut u64) -> u32;
+        pub fn ssat_check(rule: *const u8, len: usize, derivation: *const u8, dlen: usize, out: *mut u64) -> u32;
+    }
+}
+
+/// Return value and `out` after the call.
+pub type Returned = (u32, [u64; 4]);
+
+/// What stands in `out` before each call.
+pub const BEFORE: [u64; 4] = [0xa1a1_a1a1_0000_0001, 0xa2a2_a2a2_0000_0002, 0xa3a3_a3a3_0000_0003, u64::MAX - 4];
+
+/// Where a lent buffer lies in its pages.
+#[derive(Clone, Copy, Debug, PartialEq, Eq)]
+pub enum Place {
+    /// It ends where the guard page after it begins.
+    AtEnd,
+    /// It begins where the guard page before it ends.
+    AtStart,
+}
+
+const FILL: u8 = 0x5a;
+/// The longest buffer that can be lent.
+pub const LONGEST: usize = 17 * 4_096;
+
+/// One lent buffer, and the bytes that it must still hold after each call.
+struct Lent {
+    pages: Guarded,
+    place: Place,
+    bytes: Vec<u8>,
+}
+
+impl Lent {
+    fn new() -> Lent {
+        let mut pages = Guarded::new(LONGEST);
+        pages.all().fill(FILL);
+        Lent { pages, place: Place::AtEnd, bytes: Vec::new() }
+    }
+
+    fn range(&self) -> std::ops::Range<usize> {
+        match self.place {
+            Place::AtEnd => LONGEST - self.bytes.len()..LONGEST,
+            Place::AtStart => 0..self.bytes.len(),
+        }
+    }
+
+    fn lend(&mut self, bytes: &[u8], place: Place) {
+        let old = self.range();
+        self.pages.all()[old].fill(FILL);
+        self.bytes.clear();
+        self.bytes.extend_from_slice(bytes);
+        self.place = place;
+        let new = self.range();
+        self.pages.all()[new].copy_from_slice(bytes);
+    }
+
+    fn start(&mut self) -> *const u8 {
+        let at = self.range().start;
+        unsafe { self.pages.all().as_ptr().add(at) }
+    }
+
+    /// Panics if a lent byte, or one of the next 64 beside it, changed.
+    fn unchanged(&mut self, what: &str) {
+        let range = self.range();
+        let all = self.pages.all();
+        assert!(all[range.clone()] == self.bytes[..], "a lent byte of the {what} changed");
+        let beside = match self.place {
+            Place::AtEnd => &all[range.start.saturating_sub(64)..range.start],
+            Place::AtStart => &all[range.end..(range.end + 64).min(LONGEST)],
+        };
+        assert!(beside.iter().all(|byte| *byte == FILL), "a byte beside the {what} changed");
+    }
+}
+
+/// The static library, with its buffers.
+pub struct Library {
+    rule: Lent,
+    derivation: Lent,
+    out: Guarded,
+}
+
+impl Default for Library {
+    fn default() -> Library {
+        Library::new()
+    }
+}
+
+impl Library {
+    pub fn new() -> Library {
+        Library { rule: Lent::new(), derivation: Lent::new(), out: Guarded::new(1) }
+    }
+
+    pub fn lend_rule(&mut self, bytes: &[u8], place: Place) {
+        self.rule.lend(bytes, place);
+    }
+
+    pub fn lend_derivation(&mut self, bytes: &[u8], place: Place) {
+        self.derivation.lend(bytes, place);
+    }
+
+    /// Lets the lent buffers be read only, or be lent anew.
+    pub fn read_only(&mut self, on: bool) {
+        self.rule.pages.read_only(on);
+        self.derivation.pages.read_only(on);
+    }
+
+    /// Calls with `out` at the end of its pages and looks at all lent bytes afterwards.
+    fn call(&mut self, call: impl FnOnce(*const u8, usize, *const u8, usize, *mut u64) -> u32) -> Returned {
+        let all = self.out.all();
+        let end = all.len();
+        all.fill(FILL);
+        let out: *mut [u64; 4] = all[end - 32..].as_mut_ptr().cast();
+        unsafe { out.write(BEFORE) };
+        let (rule, len) = (self.rule.start(), self.rule.bytes.len());
+        let (derivation, dlen) = (self.derivation.start(), self.derivation.bytes.len());
+        let code = call(rule, len, derivation, dlen, out.cast());
+        self.rule.unchanged("rule file");
+        self.derivation.unchanged("derivation");
+        let after = unsafe { out.read() };
+        let all = self.out.all();
+        assert!(all[..end - 32].iter().all(|byte| *byte == FILL), "a byte before `out` changed");
+        (code, after)
+    }
+
+    pub fn read(&mut self) -> Returned {
+        self.call(|rule, len, _, _, out| unsafe { raw::ssat_read(rule, len, out) })
+    }
+
+    pub fn figure(&mut self) -> Returned {
+        self.call(|rule, len, _, _, out| unsafe { raw::ssat_figure(rule, len, out) })
+    }
+
+    pub fn verdict(&mut self, lo: u64, hi: u64) -> Returned {
+        self.call(|rule, len, _, _, out| unsafe { raw::ssat_verdict(rule, len, lo, hi, out) })
+    }
+
+    pub fn cut(&mut self, level: u64) -> Returned {
+        self.call(|rule, len, _, _, out| unsafe { raw::ssat_cut(rule, len, level, out) })
+    }
+
+    pub fn check(&mut self) -> Returned {
+        self.call(|rule, len, derivation, dlen, out| unsafe { raw::ssat_check(rule, len, derivation, dlen, out) })
+    }
+}
+
+/// Plain calls on slices, for the benchmark.
+pub mod plain {
+    use super::{raw, Returned};
+
+    pub fn figure(rule: &[u8]) -> Returned {
+        let mut out = [0; 4];
+        (unsafe { raw::ssat_figure(rule.as_ptr(), rule.len(), out.as_mut_ptr()) }, out)
+    }
+
+    pub fn cut(rule: &[u8], level: u64) -> Returned {
+        let mut out = [0; 4];
+        (unsafe { raw::ssat_cut(rule.as_ptr(), rule.len(), level, out.as_mut_ptr()) }, out)
+    }
+
+    pub fn check(rule: &[u8], derivation: &[u8]) -> Returned {
+        let mut out = [0; 4];
+        let code = unsafe {
+            raw::ssat_check(rule.as_ptr(), rule.len(), derivation.as_ptr(), derivation.len(), out.as_mut_ptr())
+        };
+        (code, out)
+    }
+}

@@ -1,0 +1,114 @@
+//! Makers of rule files and derivations: random ones, valid ones and damaged ones.
+
+mod derivations;
+mod rule_files;
+
+pub use derivations::*;
+pub use rule_files::*;
+
+use crate::random::Random;
+use crate::to_bytes;
+
+/// A rule file before it is written.
+#[derive(Clone, Debug, Default)]
+pub struct RuleDraft {
+    pub clauses: Vec<Vec<u32>>,
+    /// True weight and false weight of each variable.
+    pub prefix: Vec<[u32; 2]>,
+}
+
+impl RuleDraft {
+    pub fn new(clauses: &[&[u32]], prefix: &[[u32; 2]]) -> RuleDraft {
+        RuleDraft { clauses: clauses.iter().map(|clause| clause.to_vec()).collect(), prefix: prefix.to_vec() }
+    }
+
+    pub fn words(&self) -> Vec<u32> {
+        let mut words = Vec::new();
+        for clause in &self.clauses {
+            words.push(clause.len() as u32);
+            words.extend(clause);
+        }
+        let start = words.len() as u32;
+        words.extend(self.prefix.iter().flatten());
+        let count = words.len() as u32 + 4;
+        words.extend([self.clauses.len() as u32, self.prefix.len() as u32, start, count]);
+        words
+    }
+
+    pub fn bytes(&self) -> Vec<u8> {
+        to_bytes(&self.words())
+    }
+}
+
+/// A derivation line before it is written.
+#[derive(Clone, Debug)]
+pub struct LineDraft {
+    pub literals: Vec<u32>,
+    pub value: u64,
+    /// Variable, true-side parent and false-side parent of a kind 2 line.
+    pub resolved: Option<[u32; 3]>,
+}
+
+/// A derivation before it is written.
+#[derive(Clone, Debug)]
+pub struct DerivationDraft {
+    pub lines: Vec<LineDraft>,
+    pub closing: u32,
+}
+
+impl DerivationDraft {
+    pub fn words(&self) -> Vec<u32> {
+        let mut words = Vec::new();
+        for line in &self.lines {
+            words.extend([if line.resolved.is_some() { 2 } else { 1 }, line.literals.len() as u32]);
+            words.extend(&line.literals);
+            words.extend([line.value as u32, (line.value >> 32) as u32]);
+            words.extend(line.resolved.into_iter().flatten());
+        }
+        let count = words.len() as u32 + 3;
+        words.extend([self.lines.len() as u32, self.closing, count]);
+        words
+    }
+
+    pub fn bytes(&self) -> Vec<u8> {
+        to_bytes(&self.words())
+    }
+}
+
+/// The rule file and the derivation of document 01.
+pub fn sample() -> (RuleDraft, DerivationDraft) {
+    let rule = RuleDraft::new(&[&[0, 2], &[3], &[2, 4]], &[[4, 1], [0, 0], [3, 7]]);
+    let line = |literals: &[u32], value, resolved| LineDraft { literals: literals.to_vec(), value, resolved };
+    let lines = vec![
+        line(&[1, 2, 5], 1, None),
+        line(&[1, 2], 3, Some([2, 1, 4])),
+        line(&[1], 3, Some([1, 2, 3])),
+        line(&[0], 0, Some([1, 2, 0])),
+        line(&[], 12, Some([0, 5, 7])),
+    ];
+    (rule, DerivationDraft { lines, closing: 9 })
+}
+
+/// A word that is likely to do harm in place of `old`.
+fn harmful(random: &mut Random, old: u32) -> u32 {
+    match random.below(10) {
+        0 | 1 => old.wrapping_add(1),
+        2 | 3 => old.wrapping_sub(1),
+        4 | 5 => random.below(72) as u32,
+        6 => old ^ 1 << random.below(32),
+        7 => random.pick(&[0, 1, 2, 32, 33, 1_024, 1_025, 65_535, 65_536, 1 << 30, 1 << 31]),
+        8 => u32::MAX - random.below(70) as u32,
+        _ => random.word() as u32,
+    }
+}
+
+/// Cuts bytes off or adds some.
+fn damage_length(random: &mut Random, bytes: &mut Vec<u8>) {
+    if random.once_in(2) {
+        bytes.truncate(random.below(bytes.len() + 1));
+    } else {
+        for _ in 0..random.within(1, 8) {
+            bytes.push(if random.once_in(2) { 0 } else { random.word() as u8 });
+        }
+    }
+}

@@ -1,0 +1,133 @@
+//! The rule-file reader: refusals 1 to 9, in order.
+
+use crate::{to_words, Literals};
+
+/// The largest whole.
+pub const LARGEST_WHOLE: u128 = 1 << 60;
+
+/// How the prefix binds a variable.
+#[derive(Clone, Copy, Debug, PartialEq, Eq)]
+pub enum Quantifier {
+    Existential,
+    Randomized { if_true: u128, if_false: u128 },
+}
+
+impl Quantifier {
+    pub fn total(self) -> u128 {
+        match self {
+            Quantifier::Existential => 1,
+            Quantifier::Randomized { if_true, if_false } => if_true + if_false,
+        }
+    }
+
+    /// The number at a level from the two below it.
+    pub fn join(self, on_true: u128, on_false: u128) -> u128 {
+        match self {
+            Quantifier::Existential => on_true.max(on_false),
+            Quantifier::Randomized { if_true, if_false } => if_true * on_true + if_false * on_false,
+        }
+    }
+}
+
+/// An accepted rule file.
+#[derive(Clone, Debug)]
+pub struct Rules {
+    /// One quantifier a variable, outermost first.
+    pub prefix: Vec<Quantifier>,
+    pub clauses: Vec<Literals>,
+    /// The word where the prefix begins.
+    pub prefix_start: usize,
+    /// `rest[i]` is the product of the totals of variables `i` and later; `rest[n]` is 1.
+    pub rest: Vec<u128>,
+}
+
+impl Rules {
+    /// The number of variables.
+    pub fn n(&self) -> usize {
+        self.prefix.len()
+    }
+
+    pub fn whole(&self) -> u128 {
+        self.rest[0]
+    }
+}
+
+/// Reads a rule file or gives the number of its refusal.
+pub fn read(bytes: &[u8]) -> Result<Rules, u32> {
+    if bytes.len() % 4 != 0 || bytes.len() < 16 || bytes.len() > 65_536 {
+        return Err(1);
+    }
+    let words = to_words(bytes);
+    let (body, trailer) = words.split_at(words.len() - 4);
+    let [m, n, start, count] = [trailer[0], trailer[1], trailer[2], trailer[3]];
+    if count as usize != words.len() {
+        return Err(2);
+    }
+    if n > 32 || m > 1_024 {
+        return Err(3);
+    }
+    if u64::from(start) + 2 * u64::from(n) != body.len() as u64 {
+        return Err(4);
+    }
+
+    let (mut left, pairs) = body.split_at(start as usize);
+    let mut lists = Vec::new();
+    for _ in 0..m {
+        let Some((&k, after)) = left.split_first() else {
+            return Err(5);
+        };
+        if k > n || k as usize > after.len() {
+            return Err(5);
+        }
+        let (literals, after) = after.split_at(k as usize);
+        lists.push(literals);
+        left = after;
+    }
+    if !left.is_empty() {
+        return Err(5);
+    }
+
+    if lists.iter().any(|list| list.iter().any(|&literal| literal >= 2 * n)) {
+        return Err(6);
+    }
+    let mut clauses = Vec::new();
+    for list in &lists {
+        clauses.push(set_of(list).ok_or(7u32)?);
+    }
+
+    let mut prefix = Vec::new();
+    for pair in pairs.chunks_exact(2) {
+        prefix.push(match (pair[0], pair[1]) {
+            (0, 0) => Quantifier::Existential,
+            (a @ 1..=65_535, b @ 1..=65_535) => Quantifier::Randomized { if_true: a.into(), if_false: b.into() },
+            _ => return Err(8),
+        });
+    }
+
+    let mut rest = vec![1u128];
+    for quantifier in prefix.iter().rev() {
+        // Every total is at least 1, so the product never falls again.
+        let product = rest[rest.len() - 1] * quantifier.total();
+        if product > LARGEST_WHOLE {
+            return Err(9);
+        }
+        rest.push(product);
+    }
+    rest.reverse();
+    Ok(Rules { prefix, clauses, prefix_start: start as usize, rest })
+}
+
+/// The set of these literals, or none if a variable stands twice or is not under 32.
+pub fn set_of(list: &[u32]) -> Option<Literals> {
+    let mut variables = 0u32;
+    let mut set = 0;
+    for &literal in list {
+        let variable = 1u32.checked_shl(literal / 2)?;
+        if variables & variable != 0 {
+            return None;
+        }
+        variables |= variable;
+        set |= 1u64 << literal;
+    }
+    Some(set)
+}

@@ -1,0 +1,523 @@
+//! Document 01's run samples, each with the answer that its rules give, derived by hand.
+//! The tests hold the peer and the proved solver to these answers.
+
+use crate::answer::Answer;
+use crate::cases::{Case, Operation};
+use crate::generate::{sample, DerivationDraft, LineDraft, RuleDraft};
+use crate::to_bytes;
+
+#[derive(Default)]
+struct List(Vec<Case>);
+
+impl List {
+    fn add(&mut self, name: impl Into<String>, rule: &[u8], operation: Operation, code: u32, numbers: &[u64]) {
+        let expected = Answer { code, numbers: numbers.to_vec() };
+        self.0.push(Case { name: name.into(), rule: rule.to_vec(), operation, expected });
+    }
+
+    fn read(&mut self, name: &str, words: &[u32], code: u32, numbers: &[u64]) {
+        self.add(name, &to_bytes(words), Operation::Read, code, numbers);
+    }
+
+    /// A refusal of the rule file, told by every operation.
+    fn refused(&mut self, name: &str, words: &[u32], code: u32) {
+        let derivation = sample().1.bytes();
+        self.read(name, words, code, &[]);
+        let rule = to_bytes(words);
+        self.add(format!("{name}-figure"), &rule, Operation::Figure, code, &[]);
+        self.add(format!("{name}-verdict"), &rule, Operation::Verdict(2, 1), code, &[]);
+        self.add(format!("{name}-cut"), &rule, Operation::Cut(40), code, &[]);
+        self.add(format!("{name}-check"), &rule, Operation::Check(derivation), code, &[]);
+    }
+
+    fn figure(&mut self, name: &str, rule: &RuleDraft, value: u64, whole: u64) {
+        self.add(name, &rule.bytes(), Operation::Figure, 0, &[value, whole]);
+    }
+
+    fn check(&mut self, name: &str, rule: &RuleDraft, words: &[u32], code: u32, numbers: &[u64]) {
+        self.add(name, &rule.bytes(), Operation::Check(to_bytes(words)), code, numbers);
+    }
+}
+
+pub fn cases() -> Vec<Case> {
+    let mut list = List::default();
+    sample_file(&mut list);
+    readings(&mut list);
+    orders(&mut list);
+    wholes(&mut list);
+    levels_and_limits(&mut list);
+    derivations(&mut list);
+    list.0
+}
+
+/// A copy of the words with one of them changed.
+fn with(words: &[u32], at: usize, word: u32) -> Vec<u32> {
+    let mut words = words.to_vec();
+    words[at] = word;
+    words
+}
+
+/// Document 01's file and the proved samples.
+fn sample_file(list: &mut List) {
+    let (rule, derivation) = sample();
+    let (file, steps) = (rule.bytes(), derivation.bytes());
+    list.add("sample", &file, Operation::Read, 0, &[3, 3, 8, 50]);
+    list.add("sample-figure", &file, Operation::Figure, 0, &[12, 50]);
+    for (level, line) in [[0, 50, 50], [0, 50, 50], [0, 40, 40], [12, 12, 0]].iter().enumerate() {
+        list.add(format!("sample-cut-{level}"), &file, Operation::Cut(level as u64), 0, line);
+    }
+    list.add("sample-check", &file, Operation::Check(steps.clone()), 0, &[12, 50]);
+
+    // No shorter part of the rule file ends in its own word count.
+    for len in 0..file.len() {
+        let code = if len % 4 != 0 || len < 16 { 1 } else { 2 };
+        list.add(format!("sample-first-{len}"), &file[..len], Operation::Read, code, &[]);
+    }
+    // The first 5 words of the derivation end in 5: one line, which reaches past its two words.
+    for len in 0..steps.len() {
+        let (code, numbers) = match len {
+            20 => (15, &[0][..]),
+            _ if len % 4 != 0 || len < 12 => (13, &[][..]),
+            _ => (14, &[][..]),
+        };
+        let operation = Operation::Check(steps[..len].to_vec());
+        list.add(format!("sample-check-first-{len}"), &file, operation, code, numbers);
+    }
+
+    let both: &[&[u32]] = &[&[0, 2], &[1, 3]];
+    list.figure("p1", &RuleDraft::new(&[], &[]), 1, 1);
+    list.figure("p2", &RuleDraft::new(&[&[]], &[]), 0, 1);
+    list.figure("p3", &RuleDraft::new(&[&[0]], &[[3, 1]]), 3, 4);
+    list.figure("p4", &RuleDraft::new(&[&[0]], &[[0, 0]]), 1, 1);
+    list.figure("p5", &RuleDraft::new(both, &[[1, 1], [0, 0]]), 2, 2);
+    list.figure("p6", &RuleDraft::new(both, &[[0, 0], [1, 1]]), 1, 2);
+}
+
+/// Each of 1 to 9 on both sides of its border.
+fn readings(list: &mut List) {
+    // 1: length.
+    let empty = [0, 0, 0, 4];
+    list.read("length-16", &empty, 0, &[0, 0, 0, 1]);
+    list.refused("length-12", &[0, 0, 3], 1);
+    for len in [0, 15, 17, 18, 19] {
+        let mut bytes = to_bytes(&empty);
+        bytes.resize(len, 0);
+        list.add(format!("length-{len}"), &bytes, Operation::Read, 1, &[]);
+    }
+    let longest = longest_rule();
+    list.read("length-65536", &longest.words(), 0, &[32, 1_024, 16_316, 1]);
+    let mut longer = longest.clone();
+    longer.clauses[1_023].push(31);
+    list.add("length-65540", &longer.bytes(), Operation::Read, 1, &[]);
+
+    // 2: the word count.
+    let words = sample().0.words();
+    list.refused("count-less", &with(&words, 17, 17), 2);
+    list.refused("count-more", &with(&words, 17, 19), 2);
+    list.refused("count-2^31", &with(&words, 17, 18 + (1 << 31)), 2);
+
+    // 3: n and m.
+    let all = |n: usize, pair| RuleDraft { clauses: Vec::new(), prefix: vec![pair; n] };
+    list.read("n-32", &all(32, [0, 0]).words(), 0, &[32, 0, 0, 1]);
+    list.figure("n-32-figure", &all(32, [0, 0]), 1, 1);
+    list.refused("n-33", &all(33, [0, 0]).words(), 3);
+    list.refused("n-2^31", &[0, 1 << 31, 0, 4], 3);
+    let many = |m: usize| RuleDraft { clauses: vec![Vec::new(); m], prefix: Vec::new() };
+    list.read("m-1024", &many(1_024).words(), 0, &[0, 1_024, 1_024, 1]);
+    list.figure("m-1024-figure", &many(1_024), 0, 1);
+    list.refused("m-1025", &many(1_025).words(), 3);
+    list.refused("m-2^32-1", &[u32::MAX, 0, 0, 4], 3);
+
+    // 4: the prefix start.
+    list.refused("start-less", &with(&words, 16, 7), 4);
+    list.refused("start-more", &with(&words, 16, 9), 4);
+    list.refused("start-2^31", &with(&words, 16, 8 + (1 << 31)), 4);
+    // 2^32 - 2, plus 2n, is 0 modulo 2^32: the place of the trailer.
+    list.refused("start-wraps", &[0, 1, u32::MAX - 1, 4], 4);
+    list.refused("start-n-more", &with(&words, 15, 4), 4);
+
+    // 5: the walk over the clauses. One clause {0, 2} over two variables, k = n.
+    let pair = [2, 0, 2, 0, 0, 0, 0, 1, 2, 3, 11];
+    list.read("clause-k-n", &pair, 0, &[2, 1, 3, 1]);
+    list.refused("clause-reaches-one-past", &with(&pair, 0, 3), 5);
+    list.refused("clause-reaches-far", &with(&pair, 0, u32::MAX), 5);
+    list.refused("clause-reaches-wrapping", &with(&pair, 0, u32::MAX - 1), 5);
+    // Clause {0, ..}, k = n, of two words before the prefix; a second clause that is the prefix's first word, 0.
+    list.refused("clause-reaches-past-k-n", &[2, 0, 0, 0, 0, 0, 1, 2, 2, 10], 5);
+    list.refused("clause-empty-in-prefix", &with(&pair, 7, 2), 5);
+    // Three literals over two variables, where they fit: k over n, not a variable twice.
+    list.refused("clause-k-over-n", &[3, 0, 2, 0, 0, 0, 0, 0, 1, 2, 4, 12], 5);
+    // Clause {0} of one word less than there is.
+    list.refused("walk-ends-early", &with(&pair, 0, 1), 5);
+    list.refused("walk-m-less", &with(&words, 14, 2), 5);
+    list.refused("walk-m-more", &with(&words, 14, 4), 5);
+    list.refused("walk-m-1024", &with(&words, 14, 1_024), 5);
+    list.refused("walk-m-0", &with(&words, 14, 0), 5);
+
+    // 6: literals. The highest of two variables is 3.
+    list.read("literal-2n-1", &with(&pair, 2, 3), 0, &[2, 1, 3, 1]);
+    list.refused("literal-2n", &with(&pair, 2, 4), 6);
+    list.refused("literal-2^32-1", &with(&pair, 2, u32::MAX), 6);
+    list.refused("literal-n-0", &[1, 0, 1, 0, 2, 6], 5);
+
+    // 7: a variable twice.
+    list.refused("variable-twice-same", &with(&pair, 2, 0), 7);
+    list.refused("variable-twice-opposite", &with(&pair, 2, 1), 7);
+    let rule = RuleDraft::new(&[&[4, 2, 0], &[0, 2, 5]], &[[0, 0]; 3]);
+    list.read("variable-in-two-clauses", &rule.words(), 0, &[3, 2, 8, 1]);
+    let rule = RuleDraft::new(&[&[4, 2, 0], &[0, 2, 1]], &[[0, 0]; 3]);
+    list.refused("variable-twice-apart", &rule.words(), 7);
+
+    // 8: weights.
+    let one = |pair| RuleDraft { clauses: vec![vec![0]], prefix: vec![pair] };
+    list.figure("weight-true-65535", &one([65_535, 1]), 65_535, 65_536);
+    list.figure("weight-false-65535", &one([1, 65_535]), 1, 65_536);
+    list.figure("weight-both-65535", &one([65_535, 65_535]), 65_535, 131_070);
+    list.refused("weight-true-65536", &one([65_536, 1]).words(), 8);
+    list.refused("weight-false-65536", &one([1, 65_536]).words(), 8);
+    list.refused("weight-both-65536", &one([65_536, 65_536]).words(), 8);
+    list.refused("weight-true-0", &one([0, 1]).words(), 8);
+    list.refused("weight-false-0", &one([1, 0]).words(), 8);
+    list.refused("weight-0-65536", &one([0, 65_536]).words(), 8);
+    list.refused("weight-2^32-1", &one([u32::MAX, u32::MAX]).words(), 8);
+
+    // 9: the whole. See also `wholes`.
+    let thirty = |pair| {
+        let mut prefix = vec![[1, 3]; 30];
+        prefix[7] = pair;
+        RuleDraft { clauses: Vec::new(), prefix }
+    };
+    list.read("whole-2^60", &thirty([1, 3]).words(), 0, &[30, 0, 0, 1 << 60]);
+    list.refused("whole-over-2^60", &thirty([1, 4]).words(), 9);
+    list.refused("whole-2^64", &all(4, [32_768, 32_768]).words(), 9);
+    list.refused("whole-2^128", &all(8, [32_768, 32_768]).words(), 9);
+    list.refused("whole-largest", &all(32, [65_535, 65_535]).words(), 9);
+}
+
+/// 1,024 clauses over 32 existential variables in exactly 65,536 bytes. Clause {0} decides both
+/// sides of variable 0.
+fn longest_rule() -> RuleDraft {
+    let mut clauses = vec![vec![0]];
+    for at in 0..1_023 {
+        clauses.push((0..if at < 969 { 15 } else { 14 }).map(|v| 2 * v).collect());
+    }
+    RuleDraft { clauses, prefix: vec![[0, 0]; 32] }
+}
+
+/// Two faults in one file: the lower number is told.
+fn orders(list: &mut List) {
+    // Words of the file: clauses {0, 2}, {1, 3}; two variables 1:1; trailer at word 10.
+    let words = RuleDraft::new(&[&[0, 2], &[1, 3]], &[[1, 1], [1, 1]]).words();
+    assert_eq!(words, [2, 0, 2, 2, 1, 3, 1, 1, 1, 1, 2, 2, 6, 14]);
+    let change =
+        |changes: &[(usize, u32)]| changes.iter().fold(words.clone(), |words, &(at, word)| with(&words, at, word));
+    list.refused("order-2-3", &change(&[(13, 13), (11, 33)]), 2);
+    list.refused("order-3-4", &change(&[(11, 33)]), 3);
+    list.refused("order-4-5", &change(&[(12, 7), (0, 3)]), 4);
+    list.refused("order-5-6", &change(&[(2, 4), (3, 3)]), 5);
+    list.refused("order-6-7", &change(&[(2, 1), (5, 4)]), 6);
+    list.refused("order-7-8", &change(&[(5, 0), (6, 65_536)]), 7);
+    let rule = RuleDraft::new(&[], &[[65_535, 65_535], [65_535, 65_535], [65_535, 65_535], [65_535, 65_535], [1, 0]]);
+    list.refused("order-8-9", &rule.words(), 8);
+    // A literal too large in a clause with a variable twice.
+    let rule = RuleDraft::new(&[&[0, 1, 6]], &[[0, 0]; 3]);
+    list.refused("order-6-7-one-clause", &rule.words(), 6);
+    let rule = RuleDraft::new(&[&[0, 0, 5]], &[[0, 0]; 3]);
+    list.refused("order-7-beside", &rule.words(), 7);
+}
+
+/// The largest whole, 2^60, with numbers at its ends.
+fn wholes(list: &mut List) {
+    let top = 1u64 << 60;
+    let thirty = |clauses: Vec<Vec<u32>>| RuleDraft { clauses, prefix: vec![[1, 3]; 30] };
+    let none = thirty(Vec::new());
+    let all_true = thirty((0..30).map(|v| vec![2 * v]).collect());
+    let all_false = thirty((0..30).map(|v| vec![2 * v + 1]).collect());
+    list.figure("whole-2^60-none", &none, top, top);
+    list.figure("whole-2^60-all-true", &all_true, 1, top);
+    list.figure("whole-2^60-all-false", &all_false, 3u64.pow(30), top);
+    // Half of the variables set: all false so far, 3^15, each node of 4^15.
+    let half = 3u64.pow(15) << 30;
+    list.add("whole-2^60-cut-15", &all_false.bytes(), Operation::Cut(15), 0, &[0, half, half]);
+    list.add("whole-2^60-cut-0", &all_false.bytes(), Operation::Cut(0), 0, &[0, top, top]);
+    let end = 3u64.pow(30);
+    list.add("whole-2^60-cut-30", &all_false.bytes(), Operation::Cut(30), 0, &[end, end, 0]);
+    list.add("whole-2^60-none-cut-0", &none.bytes(), Operation::Cut(0), 0, &[top, top, 0]);
+    list.add("whole-2^60-hi-whole", &none.bytes(), Operation::Verdict(top, top), 0, &[0, top]);
+    list.add("whole-2^60-hi-more", &none.bytes(), Operation::Verdict(top, top + 1), 11, &[]);
+    list.add("whole-2^60-above", &none.bytes(), Operation::Verdict(0, top - 1), 0, &[1, 0]);
+    list.add("whole-2^60-below", &all_true.bytes(), Operation::Verdict(2, top), 0, &[2, 0]);
+    // A kind 1 line without literals has the whole for its value: low word 0, high word 2^28.
+    let high = 1 << 28;
+    list.check("whole-2^60-check", &none, &[1, 0, 0, high, 1, 1, 7], 0, &[top, top]);
+    list.check("whole-2^60-check-low", &none, &[1, 0, 1, high, 1, 1, 7], 20, &[0]);
+    list.check("whole-2^60-check-high", &none, &[1, 0, 0, high + 1, 1, 1, 7], 20, &[0]);
+    list.check("whole-2^60-check-swapped", &none, &[1, 0, high, 0, 1, 1, 7], 20, &[0]);
+}
+
+/// 10, 11 and 12 on both sides of their borders.
+fn levels_and_limits(list: &mut List) {
+    let file = sample().0.bytes();
+    let verdicts: [(&str, u64, u64, u32, &[u64]); 13] = [
+        ("p8", 12, 12, 0, &[0, 12]),
+        ("p9", 13, 50, 0, &[2, 0]),
+        ("p10", 0, 11, 0, &[1, 0]),
+        ("limits-lo-figure", 12, 50, 0, &[0, 12]),
+        ("limits-hi-figure", 0, 12, 0, &[0, 12]),
+        ("limits-0-0", 0, 0, 0, &[1, 0]),
+        ("limits-hi-whole", 0, 50, 0, &[0, 12]),
+        ("limits-both-whole", 50, 50, 0, &[2, 0]),
+        ("limits-hi-one-more", 0, 51, 11, &[]),
+        ("limits-hi-largest", u64::MAX, u64::MAX, 11, &[]),
+        ("limits-lo-over-hi", 13, 12, 10, &[]),
+        ("limits-lo-over-hi-over-whole", 52, 51, 10, &[]),
+        ("limits-lo-largest", u64::MAX, 50, 10, &[]),
+    ];
+    for (name, lo, hi, code, numbers) in verdicts {
+        list.add(name, &file, Operation::Verdict(lo, hi), code, numbers);
+    }
+
+    list.add("level-n", &file, Operation::Cut(3), 0, &[12, 12, 0]);
+    for (name, level) in
+        [("level-n+1", 4), ("level-2^32", 1 << 32), ("level-2^32+1", (1 << 32) + 1), ("level-largest", u64::MAX)]
+    {
+        list.add(name, &file, Operation::Cut(level), 12, &[]);
+    }
+    let none = RuleDraft::new(&[], &[]).bytes();
+    let lost = RuleDraft::new(&[&[]], &[]).bytes();
+    list.add("level-0-of-0-met", &none, Operation::Cut(0), 0, &[1, 1, 0]);
+    list.add("level-0-of-0-lost", &lost, Operation::Cut(0), 0, &[0, 0, 0]);
+    list.add("level-1-of-0", &none, Operation::Cut(1), 12, &[]);
+    // Clauses {0} and {62} over 32 existential variables.
+    let last = RuleDraft { clauses: vec![vec![0], vec![62]], prefix: vec![[0, 0]; 32] };
+    list.add("level-1-of-32", &last.bytes(), Operation::Cut(1), 0, &[0, 1, 1]);
+    list.add("level-33-of-32", &last.bytes(), Operation::Cut(33), 12, &[]);
+    // Met where variable 0 is true, weight 3 of 5, else open: all three numbers differ.
+    let mixed = RuleDraft::new(&[&[0, 2], &[0, 4]], &[[3, 2], [0, 0], [1, 1]]);
+    list.add("cut-three-numbers", &mixed.bytes(), Operation::Cut(1), 0, &[6, 10, 4]);
+    // An existential choice between a met node and an open one: all three numbers are the whole.
+    let choice = RuleDraft::new(&[&[0, 2]], &[[0, 0], [1, 1]]);
+    list.add("cut-met-beside-open", &choice.bytes(), Operation::Cut(1), 0, &[2, 2, 2]);
+}
+
+/// Each of 13 to 21 on both sides of its border.
+fn derivations(list: &mut List) {
+    let (rule, draft) = sample();
+    let words = draft.words();
+    let steps = &draft.lines;
+    // The first word of each line, and of the trailer.
+    let at = [0, 7, 16, 24, 32, 39];
+    let accepted: &[u64] = &[12, 50];
+    let one_line = [1, 0, 1, 0, 1, 1, 7];
+    let none = RuleDraft::new(&[], &[]);
+    let lost = RuleDraft::new(&[&[]], &[]);
+
+    // 13: length. The empty derivation has 12 bytes.
+    list.check("empty-derivation", &lost, &[0, 0, 3], 0, &[0, 1]);
+    list.check("empty-derivation-of-sample", &rule, &[0, 0, 3], 21, &[]);
+    list.check("no-clause-no-line", &none, &[0, 0, 3], 21, &[]);
+    list.check("steps-length-8", &lost, &[0, 2], 13, &[]);
+    list.check("steps-length-0", &lost, &[], 13, &[]);
+    for len in [11, 13, 14, 15] {
+        let mut bytes = to_bytes(&[0, 0, 3]);
+        bytes.resize(len, 0);
+        list.add(format!("steps-length-{len}"), &lost.bytes(), Operation::Check(bytes), 13, &[]);
+    }
+    let wide = RuleDraft::new(&[], &[[0, 0]; 13]);
+    let line = |k: u32| LineDraft { literals: (0..k).map(|v| 2 * v).collect(), value: 1, resolved: None };
+    let mut lines = vec![line(0)];
+    lines.extend((0..1_023).map(|at| line(if at < 9 { 13 } else { 12 })));
+    let mut longest = DerivationDraft { lines, closing: 1 };
+    list.check("steps-length-65536", &wide, &longest.words(), 0, &[1, 1]);
+    longest.lines[1_023] = line(13);
+    list.check("steps-length-65540", &wide, &longest.words(), 13, &[]);
+
+    // 14: the word count and the line count.
+    list.check("steps-count-less", &rule, &with(&words, 41, 41), 14, &[]);
+    list.check("steps-count-more", &rule, &with(&words, 41, 43), 14, &[]);
+    let repeated = |count| DerivationDraft { lines: vec![line(0); count], closing: 1 };
+    list.check("lines-1024", &none, &repeated(1_024).words(), 0, &[1, 1]);
+    list.check("lines-1025", &none, &repeated(1_025).words(), 14, &[]);
+    list.check("lines-named-1025", &rule, &with(&words, 39, 1_025), 14, &[]);
+    list.check("lines-named-2^32-1", &rule, &with(&words, 39, u32::MAX), 14, &[]);
+
+    // 15: the lines' shape.
+    for (number, &place) in at[..5].iter().enumerate() {
+        let number = number as u64;
+        list.check(&format!("kind-0-line-{number}"), &rule, &with(&words, place, 0), 15, &[number]);
+        list.check(&format!("kind-3-line-{number}"), &rule, &with(&words, place, 3), 15, &[number]);
+        list.check(&format!("k-over-n-line-{number}"), &rule, &with(&words, place + 1, 4), 15, &[number]);
+        list.check(&format!("k-2^32-1-line-{number}"), &rule, &with(&words, place + 1, u32::MAX), 15, &[number]);
+    }
+    // The first such line, also where the end is wrong too.
+    list.check("kind-wrong-twice", &rule, &with(&with(&words, 7, 0), 24, 3), 15, &[1]);
+    list.check("kind-and-end-wrong", &rule, &with(&with(&words, 16, 3), 39, 4), 15, &[2]);
+    list.check("lines-named-6", &rule, &with(&words, 39, 6), 15, &[5]);
+    list.check("lines-named-1024", &rule, &with(&words, 39, 1_024), 15, &[5]);
+    list.check("lines-named-4", &rule, &with(&words, 39, 4), 15, &[4]);
+    list.check("lines-named-0", &rule, &with(&words, 39, 0), 15, &[0]);
+    // The last line as long as it may be, and one word longer: k = 1 takes a word of the trailer.
+    list.check("line-past-trailer", &rule, &with(&words, 33, 1), 15, &[4]);
+    // Words between the last line and the trailer: with 5 lines only the end is wrong; with 6
+    // the sixth line is past the trailer's start.
+    let mut loose = words.clone();
+    loose.splice(39..39, [1, 0]);
+    loose[43] = 44;
+    list.check("loose-end", &rule, &loose, 15, &[5]);
+    list.check("loose-end-as-line", &rule, &with(&loose, 41, 6), 15, &[5]);
+    // The kind word before the trailer, and k where the trailer begins.
+    list.check("line-of-one-word", &none, &[1, 1, 1, 4], 15, &[0]);
+
+    // 16: literals of lines.
+    list.check("line-literal-2n-1", &rule, &words, 0, accepted);
+    list.check("line-literal-2n", &rule, &with(&words, 4, 6), 16, &[0]);
+    list.check("line-literal-2^32-1", &rule, &with(&words, 10, u32::MAX), 16, &[1]);
+    list.check("line-variable-twice-same", &rule, &with(&words, 10, 1), 16, &[1]);
+    list.check("line-variable-twice-opposite", &rule, &with(&words, 3, 0), 16, &[0]);
+    list.check("line-variable-twice-apart", &rule, &with(&words, 4, 0), 16, &[0]);
+    // The first line with either fault.
+    list.check("line-twice-then-large", &rule, &with(&with(&words, 3, 0), 9, 6), 16, &[0]);
+    list.check("line-large-then-twice", &rule, &with(&with(&words, 2, 6), 9, 3), 16, &[0]);
+
+    // Each check covers all lines before the next.
+    list.check("order-15-16", &rule, &with(&with(&words, 2, 6), 32, 3), 15, &[4]);
+    list.check("order-16-17", &rule, &with(&with(&words, 4, 4), 26, 6), 16, &[3]);
+    list.check("order-13-14", &rule, &[5], 13, &[]);
+
+    // 17: kind 1. Each literal of line 0 is needed for one clause.
+    for (name, literals, value) in [("first", [2, 5], 1), ("second", [1, 5], 1), ("third", [1, 2], 10)] {
+        let mut draft = draft.clone();
+        draft.lines[0] = LineDraft { literals: literals.to_vec(), value, resolved: None };
+        list.check(&format!("kind-1-without-{name}"), &rule, &draft.words(), 17, &[0]);
+    }
+    list.check("kind-1-opposite", &rule, &with(&words, 4, 4), 17, &[0]);
+    list.check("kind-1-opposite-and-value", &rule, &with(&with(&words, 4, 4), 5, 2), 17, &[0]);
+    list.check("kind-1-empty-clause", &lost, &one_line, 17, &[0]);
+    // A line that is enough although it leaves variables unset.
+    let free = RuleDraft::new(&[&[0, 2], &[0, 5]], &[[1, 2], [1, 1], [1, 1]]);
+    // Line {1}, value R(1) = 4; the other side is not written, so nothing closes.
+    list.check("kind-1-unset", &free, &[1, 1, 1, 4, 0, 1, 1, 8], 21, &[]);
+    list.check("kind-1-unset-value", &free, &[1, 1, 1, 1, 0, 1, 1, 8], 20, &[0]);
+
+    // 18: variable and parents. Line 1 is at word 7; its variable, 2, at word 13.
+    list.check("v-n", &rule, &with(&words, 13, 3), 18, &[1]);
+    list.check("v-2^32-1", &rule, &with(&words, 13, u32::MAX), 18, &[1]);
+    list.check("true-parent-clause-m", &rule, &with(&words, 14, 6), 18, &[1]);
+    list.check("true-parent-itself", &rule, &with(&words, 14, 3), 18, &[1]);
+    list.check("true-parent-later", &rule, &with(&words, 14, 5), 18, &[1]);
+    list.check("true-parent-past-lines", &rule, &with(&words, 14, 11), 18, &[1]);
+    list.check("false-parent-clause-m", &rule, &with(&words, 15, 6), 18, &[1]);
+    list.check("false-parent-itself", &rule, &with(&words, 15, 3), 18, &[1]);
+    list.check("false-parent-2^32-1", &rule, &with(&words, 15, u32::MAX), 18, &[1]);
+    list.check("false-parent-2^32-2", &rule, &with(&words, 15, u32::MAX - 1), 18, &[1]);
+    // The last clause is there, but lacks what is needed.
+    list.check("true-parent-last-clause", &rule, &with(&words, 14, 4), 19, &[1]);
+    // A bad false-side reference beside a true-side parent that lacks the opposite of v.
+    list.check("order-18-19", &rule, &with(&with(&words, 14, 4), 15, 6), 18, &[1]);
+
+    // 19: literals of kind 2.
+    list.check("parents-swapped", &rule, &with(&with(&words, 14, 4), 15, 1), 19, &[1]);
+    list.check("v-other", &rule, &with(&words, 13, 1), 19, &[1]);
+    list.check("resolvent-opposite", &rule, &with(&words, 10, 3), 19, &[1]);
+    let mut less = draft.clone();
+    less.lines[1].literals = vec![1];
+    list.check("resolvent-one-less", &rule, &less.words(), 19, &[1]);
+    let mut more = draft.clone();
+    more.lines[1].literals = vec![1, 2, 5];
+    list.check("resolvent-one-more", &rule, &more.words(), 19, &[1]);
+    more.lines[3].literals = vec![0, 4];
+    more.lines[1].literals = vec![1, 2];
+    list.check("resolvent-one-more-later", &rule, &more.words(), 19, &[3]);
+    list.check("order-19-20", &rule, &with(&with(&words, 10, 3), 11, 4), 19, &[1]);
+    // Parents {5} and {0}, then {0} and {4}: one of them lacks what is needed on variable 2.
+    let lacks = RuleDraft::new(&[&[5], &[0], &[4]], &[[1, 1], [1, 1], [1, 1]]);
+    list.check("false-parent-lacks-v", &lacks, &[2, 1, 0, 0, 0, 2, 0, 2, 1, 1, 11], 19, &[0]);
+    list.check("true-parent-lacks-opposite", &lacks, &[2, 1, 0, 0, 0, 2, 2, 4, 1, 1, 11], 19, &[0]);
+    // Parents {1, 4} and {0, 4}: variable 2 stands after variable 0.
+    let after = RuleDraft::new(&[&[1, 4], &[0, 4]], &[[1, 1], [1, 1], [1, 1]]);
+    list.check("variable-after-v", &after, &[2, 1, 4, 0, 0, 0, 0, 2, 1, 1, 11], 19, &[0]);
+    // Parents {1, 5} and {0, 4} have an opposite pair besides variable 2's, so no line fits them.
+    let clash = RuleDraft::new(&[&[1, 5], &[0, 4]], &[[1, 1], [1, 1], [1, 1]]);
+    list.check("resolvent-with-opposites", &clash, &[2, 2, 0, 1, 0, 0, 2, 0, 2, 1, 1, 12], 16, &[0]);
+    list.check("resolvent-with-half", &clash, &[2, 1, 0, 0, 0, 2, 0, 2, 1, 1, 11], 19, &[0]);
+
+    // 20: values. Low words of the lines' values, then a high word.
+    for (number, place) in [5, 11, 19, 27, 34].into_iter().enumerate() {
+        let number = number as u64;
+        let right = words[place];
+        list.check(&format!("value-more-line-{number}"), &rule, &with(&words, place, right + 1), 20, &[number]);
+        list.check(
+            &format!("value-less-line-{number}"),
+            &rule,
+            &with(&words, place, right.wrapping_sub(1)),
+            20,
+            &[number],
+        );
+        list.check(&format!("value-high-line-{number}"), &rule, &with(&words, place + 1, 1), 20, &[number]);
+    }
+    // The true-side parent with the false weight: in the last line, and in all.
+    list.check("value-weights-swapped", &rule, &with(&words, 34, 3), 20, &[4]);
+    let swapped = with(&with(&with(&words, 11, 7), 19, 7), 34, 7);
+    list.check("value-weights-swapped-in-all", &rule, &swapped, 20, &[1]);
+    // Lines are judged one after another: 20 in line 1 before 19 in line 2.
+    list.check("order-of-lines", &rule, &with(&with(&words, 11, 4), 18, 0), 20, &[1]);
+
+    // 21: the closing reference.
+    list.check("closing-line-absent", &rule, &with(&words, 40, 11), 21, &[]);
+    list.check("closing-line-with-literals", &rule, &with(&words, 40, 7), 21, &[]);
+    list.check("closing-clause-absent", &rule, &with(&words, 40, 6), 21, &[]);
+    list.check("closing-clause-with-literals", &rule, &with(&words, 40, 4), 21, &[]);
+    list.check("closing-2^32-1", &rule, &with(&words, 40, u32::MAX), 21, &[]);
+    list.check("closing-2^32-2", &rule, &with(&words, 40, u32::MAX - 1), 21, &[]);
+    list.check("order-20-21", &rule, &with(&with(&words, 34, 13), 40, 11), 20, &[4]);
+
+    // A line's literals in another order than its parents'.
+    let mut turned = draft.clone();
+    turned.lines[0].literals = vec![5, 1, 2];
+    turned.lines[1].literals = vec![2, 1];
+    list.check("literals-turned", &rule, &turned.words(), 0, accepted);
+    let mut turned_rule = rule.clone();
+    turned_rule.clauses[0] = vec![2, 0];
+    turned_rule.clauses[2] = vec![4, 2];
+    list.check("clauses-turned", &turned_rule, &words, 0, accepted);
+
+    // Lines left unused, before and after; the closing line need not be the last.
+    let mut unused = draft.clone();
+    unused.lines.push(steps[0].clone());
+    unused.lines.push(steps[1].clone());
+    list.check("lines-unused", &rule, &unused.words(), 0, accepted);
+    unused.lines[6].value = 4;
+    list.check("lines-unused-wrong", &rule, &unused.words(), 20, &[6]);
+
+    // Line 0 is used twice, and both resolvents jump over variable 1, of total 3.
+    let twice = RuleDraft::new(&[&[0, 4], &[1, 4]], &[[1, 1], [2, 1], [3, 1]]);
+    let step = |literals: &[u32], value, resolved| LineDraft { literals: literals.to_vec(), value, resolved };
+    let mut used = DerivationDraft {
+        lines: vec![
+            step(&[5], 1, None),
+            step(&[0], 9, Some([2, 1, 0])),
+            step(&[1], 9, Some([2, 1, 2])),
+            step(&[], 18, Some([0, 5, 3])),
+        ],
+        closing: 7,
+    };
+    list.check("line-used-twice", &twice, &used.words(), 0, &[18, 24]);
+    used.lines[1].value = 3;
+    list.check("skipped-total-forgotten", &twice, &used.words(), 20, &[1]);
+
+    // Clauses {4} and {5} close at once, over two skipped totals.
+    let units = RuleDraft::new(&[&[4], &[5]], &[[1, 1], [2, 1], [3, 1]]);
+    list.check("resolvent-of-clauses", &units, &[2, 0, 0, 0, 2, 2, 0, 1, 1, 10], 0, &[0, 24]);
+
+    // Closing with an empty clause of the rule file: all lines are still judged.
+    let with_empty = RuleDraft::new(&[&[0], &[], &[1]], &[[3, 1]]);
+    list.check("closing-empty-clause", &with_empty, &[2, 0, 0, 0, 0, 4, 0, 1, 2, 10], 0, &[0, 4]);
+    list.check("closing-empty-clause-wrong-line", &with_empty, &[2, 0, 1, 0, 0, 4, 0, 1, 2, 10], 20, &[0]);
+    list.check("closing-clause-beside", &with_empty, &[0, 0, 3], 21, &[]);
+
+    // n = 0.
+    list.check("n-0-met", &none, &one_line, 0, &[1, 1]);
+    list.check("n-0-value-0", &none, &with(&one_line, 2, 0), 20, &[0]);
+    list.check("n-0-literal", &none, &[1, 1, 0, 1, 0, 1, 1, 8], 15, &[0]);
+    list.check("n-0-kind-2", &lost, &[2, 0, 0, 0, 0, 0, 0, 1, 1, 10], 18, &[0]);
+}

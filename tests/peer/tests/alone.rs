@@ -1,0 +1,203 @@
+//! The peer by itself: document 01's samples, and its methods against each other.
+
+use peer::answer::{answer, Answer};
+use peer::generate::{self, DerivationDraft, LineDraft, RuleDraft};
+use peer::random::Random;
+use peer::rules::{self, Rules};
+use peer::tables::Tables;
+use peer::{derivation, enumerate, to_bytes, to_words, walk};
+
+fn rules_of(draft: &RuleDraft) -> Rules {
+    rules::read(&draft.bytes()).expect("a valid rule file")
+}
+
+fn numbers(list: &[u64]) -> Answer {
+    Answer { code: 0, numbers: list.to_vec() }
+}
+
+#[test]
+fn sample_words() {
+    let (rule, derivation) = generate::sample();
+    assert_eq!(rule.words(), [2, 0, 2, 1, 3, 2, 2, 4, 4, 1, 0, 0, 3, 7, 3, 3, 8, 18]);
+    let lines = [
+        &[1, 3, 1, 2, 5, 1, 0][..],
+        &[2, 2, 1, 2, 3, 0, 2, 1, 4],
+        &[2, 1, 1, 3, 0, 1, 2, 3],
+        &[2, 1, 0, 0, 0, 1, 2, 0],
+        &[2, 0, 12, 0, 0, 5, 7],
+        &[5, 9, 42],
+    ];
+    assert_eq!(derivation.words(), lines.concat());
+}
+
+/// What the program prints for document 01's file.
+#[test]
+fn sample_answers() {
+    let (rule, draft) = generate::sample();
+    let file = rule.bytes();
+    assert_eq!(answer(&file, |solver| solver.read()), numbers(&[3, 3, 8, 50]));
+    assert_eq!(answer(&file, |solver| solver.figure()), numbers(&[12, 50]));
+    let lines = [[0, 50, 50], [0, 50, 50], [0, 40, 40], [12, 12, 0]];
+    let rules = rules_of(&rule);
+    let tables = Tables::new(&rules);
+    for (level, line) in lines.iter().enumerate() {
+        assert_eq!(answer(&file, |solver| solver.cut(level as u64)), numbers(line));
+        assert_eq!(tables.cut(level), line.map(u128::from));
+        assert_eq!(walk::cut(&rules, level).0, *line);
+    }
+    assert_eq!(answer(&file, |solver| solver.cut(4)), Answer::refused(12));
+    assert_eq!(answer(&file, |solver| solver.check(&draft.bytes())), numbers(&[12, 50]));
+    assert_eq!(answer(&file, |solver| solver.verdict(12, 12)), numbers(&[0, 12]));
+    assert_eq!(answer(&file, |solver| solver.verdict(13, 50)), numbers(&[2, 0]));
+    assert_eq!(answer(&file, |solver| solver.verdict(0, 11)), numbers(&[1, 0]));
+}
+
+/// P1 to P6.
+#[test]
+fn proved_samples() {
+    let both: &[&[u32]] = &[&[0, 2], &[1, 3]];
+    let list: [(&[&[u32]], &[[u32; 2]], [u128; 2]); 6] = [
+        (&[], &[], [1, 1]),
+        (&[&[]], &[], [0, 1]),
+        (&[&[0]], &[[3, 1]], [3, 4]),
+        (&[&[0]], &[[0, 0]], [1, 1]),
+        (both, &[[1, 1], [0, 0]], [2, 2]),
+        (both, &[[0, 0], [1, 1]], [1, 2]),
+    ];
+    for (clauses, prefix, [value, whole]) in list {
+        let rules = rules_of(&RuleDraft::new(clauses, prefix));
+        assert_eq!(rules.whole(), whole);
+        assert_eq!(enumerate::value(&rules), value);
+        assert_eq!(Tables::new(&rules).value(), value);
+        assert_eq!(u128::from(walk::value(&rules).0), value);
+    }
+}
+
+/// Enumeration, tables and walk agree, and the cut's numbers are as they must be.
+#[test]
+fn methods_agree() {
+    let mut random = Random::new(1);
+    for round in 0..30_000 {
+        let draft = generate::small_rule(&mut random, if round % 20 == 0 { 12 } else { 8 });
+        let rules = rules_of(&draft);
+        let n = rules.n();
+        let tables = Tables::new(&rules);
+        let value = enumerate::value(&rules);
+        let (walked, nodes) = walk::value(&rules);
+        assert_eq!(tables.value(), value, "{draft:?}");
+        assert_eq!(u128::from(walked), value, "{draft:?}");
+        assert_eq!(tables.nodes(n), u128::from(nodes), "{draft:?}");
+        let mut before = [0, rules.whole()];
+        for d in 0..=n {
+            let [lower, upper, open] = enumerate::cut(&rules, d);
+            let (walked, nodes) = walk::cut(&rules, d);
+            assert_eq!(tables.cut(d), [lower, upper, open], "level {d} of {draft:?}");
+            assert_eq!(Tables::down_to(&rules, d).cut(d), [lower, upper, open], "level {d} of {draft:?}");
+            assert_eq!(walked.map(u128::from), [lower, upper, open], "level {d} of {draft:?}");
+            assert_eq!(tables.nodes(d), u128::from(nodes), "level {d} of {draft:?}");
+            assert!(lower <= value && value <= upper && upper - lower <= open);
+            assert!(before[0] <= lower && upper <= before[1]);
+            before = [lower, upper];
+        }
+        assert_eq!(before, [value, value]);
+    }
+}
+
+/// Tables and walk agree where enumeration would take too long.
+#[test]
+fn methods_agree_on_long_files() {
+    let mut random = Random::new(2);
+    let mut compared = 0;
+    for _ in 0..300 {
+        let draft = generate::long_rule(&mut random);
+        let rules = rules_of(&draft);
+        let tables = Tables::new(&rules);
+        assert_eq!(enumerate::cut(&rules, 6), tables.cut(6));
+        if tables.nodes(rules.n()) * rules.clauses.len() as u128 > 20_000_000 {
+            continue;
+        }
+        compared += 1;
+        let (walked, nodes) = walk::value(&rules);
+        assert_eq!(u128::from(walked), tables.value());
+        assert_eq!(u128::from(nodes), tables.nodes(rules.n()));
+        let d = random.below(rules.n());
+        assert_eq!(walk::cut(&rules, d).0.map(u128::from), tables.cut(d));
+    }
+    assert!(compared > 150, "{compared} files compared");
+}
+
+/// The plain walk gives document 01's derivation.
+#[test]
+fn writer_gives_the_sample() {
+    let (rule, expected) = generate::sample();
+    let written = generate::derivation(&rules_of(&rule), 1_024).unwrap();
+    assert_eq!(written.words(), expected.words());
+}
+
+/// What the writers write is accepted, and any accepted derivation closes with the value.
+#[test]
+fn derivations_give_the_value() {
+    let mut random = Random::new(3);
+    let (mut accepted, mut damaged) = (0, 0);
+    for _ in 0..6_000 {
+        let rules = rules_of(&generate::small_rule(&mut random, 8));
+        let value = enumerate::value(&rules);
+        let drafts = [
+            generate::derivation(&rules, 1_024).unwrap(),
+            generate::free_derivation(&mut random, &rules, 1_024).unwrap(),
+        ];
+        for draft in drafts {
+            let mut bytes = draft.bytes();
+            if bytes.len() > 65_536 {
+                continue;
+            }
+            assert_eq!(derivation::check(&rules, &bytes), Ok(value));
+            accepted += 1;
+            for _ in 0..4 {
+                let good = bytes.clone();
+                generate::damage_derivation(&mut random, &mut bytes);
+                if let Ok(closing) = derivation::check(&rules, &bytes) {
+                    assert_eq!(closing, value, "{:?}", to_words(&bytes));
+                    damaged += 1;
+                }
+                bytes = good;
+            }
+        }
+    }
+    assert!(accepted > 10_000 && damaged > 100, "{accepted} {damaged}");
+}
+
+/// The wrong programs of document 01 that have a derivation are told apart.
+#[test]
+fn skipped_totals_count() {
+    // Clause {0} over three randomized variables; the line {1} of value R(1) jumps over none,
+    // the resolvent over variable 2 jumps over variable 1.
+    let rule = RuleDraft::new(&[&[0]], &[[3, 1], [2, 5], [1, 1]]);
+    let line = |literals: &[u32], value, resolved| LineDraft { literals: literals.to_vec(), value, resolved };
+    let lines = vec![
+        line(&[1, 5], 1, None),
+        line(&[4, 1], 1, None),
+        line(&[1], 14, Some([2, 1, 3])),
+        line(&[], 42, Some([0, 5, 0])),
+    ];
+    let rules = rules_of(&rule);
+    let mut draft = DerivationDraft { lines, closing: 7 };
+    assert_eq!(derivation::check(&rules, &draft.bytes()), Ok(42));
+    draft.lines[2].value = 2;
+    assert_eq!(derivation::check(&rules, &draft.bytes()), Err((20, Some(2))));
+}
+
+/// Sums and products that would pass modulo 2^32 or 2^64 are refused.
+#[test]
+fn no_wrapping() {
+    let number = |words: &[u32]| rules::read(&to_bytes(words)).err();
+    // Prefix start 2^32 - 2 with n = 1.
+    assert_eq!(number(&[0, 1, u32::MAX - 1, 4]), Some(4));
+    // A clause length that wraps to the prefix start: 1 + 1 + k.
+    assert_eq!(number(&[u32::MAX, 1, 0, 1, 5]), Some(5));
+    // Four totals of 2^16: whole 2^64.
+    let rule = RuleDraft::new(&[], &[[32_768, 32_768]; 4]);
+    assert_eq!(number(&rule.words()), Some(9));
+    // 2n modulo 2^32.
+    assert_eq!(number(&[0, 1 << 31, 0, 4]), Some(3));
+}

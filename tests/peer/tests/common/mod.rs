@@ -1,0 +1,160 @@
+//! Compares the proved solver with the peer, call by call, and counts what was answered.
+
+use peer::answer::{Answer, Solver};
+use peer::ffi::{Library, Place, Returned, BEFORE};
+use peer::random::Random;
+use peer::rules;
+
+pub const READ: usize = 0;
+pub const FIGURE: usize = 1;
+pub const VERDICT: usize = 2;
+pub const CUT: usize = 3;
+pub const CHECK: usize = 4;
+const NAMES: [&str; 5] = ["read", "figure", "verdict", "cut", "check"];
+
+/// Files whose tree has more nodes times clauses than this are read but not solved.
+const MOST_STEPS: u128 = 2_000_000;
+
+pub struct Pair {
+    pub library: Library,
+    /// How often each operation returned each number.
+    pub counts: [[u64; 22]; 5],
+    /// How often a verdict was within, above and below.
+    pub verdicts: [u64; 3],
+    /// How often 15 to 20 named a line after line 0.
+    pub later_lines: [u64; 22],
+}
+
+/// The number of rounds, times the variable PEER_ROUNDS if it is set.
+pub fn rounds(count: usize) -> usize {
+    count * std::env::var("PEER_ROUNDS").map_or(1, |text| text.parse().expect("PEER_ROUNDS is a number"))
+}
+
+/// The random numbers of one test: the same in every run, unless PEER_SEED is set.
+pub fn random(test: u64) -> Random {
+    let seed = std::env::var("PEER_SEED").map_or(0, |text| text.parse().expect("PEER_SEED is a number"));
+    Random::new(Random::new(seed).word() ^ test)
+}
+
+fn place(random: &mut Random) -> Place {
+    if random.once_in(4) {
+        Place::AtStart
+    } else {
+        Place::AtEnd
+    }
+}
+
+impl Pair {
+    pub fn new() -> Pair {
+        Pair { library: Library::new(), counts: [[0; 22]; 5], verdicts: [0; 3], later_lines: [0; 22] }
+    }
+
+    /// Fails unless the call returned the peer's answer.
+    fn same(&mut self, operation: usize, expected: &Answer, got: Returned, input: impl Fn() -> String) {
+        let wanted = (expected.code, expected.out(BEFORE));
+        assert!(got == wanted, "{}: library {got:?}, peer {wanted:?}\n{}", NAMES[operation], input());
+        let code = expected.code as usize;
+        self.counts[operation][code] += 1;
+        if operation == VERDICT && code == 0 {
+            self.verdicts[expected.numbers[0] as usize] += 1;
+        }
+        if (15..=20).contains(&code) && expected.numbers[0] > 0 {
+            self.later_lines[code] += 1;
+        }
+    }
+
+    /// Compares all operations but the derivation check on one rule file.
+    pub fn rule(&mut self, random: &mut Random, bytes: &[u8]) {
+        let input = || format!("rule file {}", to_hex(bytes));
+        let rules = rules::read(bytes);
+        self.library.lend_rule(bytes, place(random));
+        let solver = Solver::new(&rules);
+        let got = self.library.read();
+        self.same(READ, &solver.read(), got, input);
+        let (n, m, whole) = match &rules {
+            Ok(rules) => (rules.n() as u64, rules.clauses.len(), rules.whole() as u64),
+            Err(_) => (random.below(34) as u64, 0, 1 << random.below(63)),
+        };
+        if solver.nodes() * (m as u128 + 1) > MOST_STEPS {
+            return;
+        }
+        let figure = solver.figure();
+        let got = self.library.figure();
+        self.same(FIGURE, &figure, got, input);
+
+        let value = figure.numbers.first().copied().unwrap_or(0);
+        let limits = [0, 1, value.saturating_sub(1), value, value, value + 1, whole / 2, whole - 1, whole];
+        for _ in 0..4 {
+            let (mut lo, mut hi) = (random.pick(&limits), random.pick(&limits));
+            if lo > hi && !random.once_in(4) {
+                (lo, hi) = (hi, lo);
+            }
+            if random.once_in(6) {
+                hi = random.pick(&[whole + 1, whole + 2, whole << 1, u64::MAX]);
+            }
+            if random.once_in(20) {
+                lo = random.pick(&[whole + 1, whole + 2, u64::MAX]);
+            }
+            let got = self.library.verdict(lo, hi);
+            self.same(VERDICT, &solver.verdict(lo, hi), got, || format!("limits {lo} {hi}, {}", input()));
+        }
+
+        let most = if rules.is_ok() { n } else { 0 };
+        let far = random.pick(&[n + 1, n + 2, 33, 64, 1 << 32, (1 << 32) + n, 1 << 63, u64::MAX]);
+        for level in (0..=most).chain([n + 1, far]) {
+            let got = self.library.cut(level);
+            self.same(CUT, &solver.cut(level), got, || format!("level {level}, {}", input()));
+        }
+    }
+
+    /// Compares the reading of one rule file.
+    pub fn read(&mut self, random: &mut Random, bytes: &[u8]) {
+        self.library.lend_rule(bytes, place(random));
+        let rules = rules::read(bytes);
+        let got = self.library.read();
+        self.same(READ, &Solver::new(&rules).read(), got, || format!("rule file {}", to_hex(bytes)));
+    }
+
+    /// Lends a rule file for the checks that follow.
+    pub fn lend_rule(&mut self, random: &mut Random, bytes: &[u8]) {
+        self.library.lend_rule(bytes, place(random));
+    }
+
+    /// Compares the check of one derivation over the rule file that is lent.
+    pub fn check(&mut self, random: &mut Random, rule: &[u8], solver: &Solver, derivation: &[u8]) -> Answer {
+        self.library.lend_derivation(derivation, place(random));
+        let expected = solver.check(derivation);
+        let got = self.library.check();
+        self.same(CHECK, &expected, got, || format!("rule file {}\nderivation {}", to_hex(rule), to_hex(derivation)));
+        expected
+    }
+
+    /// Fails unless the operation returned each of these numbers at least `least` times.
+    pub fn reached(&self, operation: usize, numbers: impl IntoIterator<Item = usize>, least: u64) {
+        for number in numbers {
+            let count = self.counts[operation][number];
+            assert!(count >= least, "{} returned {number} only {count} times", NAMES[operation]);
+        }
+    }
+
+    /// Prints the counts (seen with `--nocapture`).
+    pub fn report(&self, test: &str) {
+        let mut text = format!("{test}:\n");
+        for (operation, counts) in self.counts.iter().enumerate() {
+            let total: u64 = counts.iter().sum();
+            if total > 0 {
+                text += &format!("  {:7} {total:8} calls:", NAMES[operation]);
+                for (number, count) in counts.iter().enumerate().filter(|(_, count)| **count > 0) {
+                    text += &format!(" {number}:{count}");
+                }
+                text += "\n";
+            }
+        }
+        print!("{text}");
+    }
+}
+
+/// A file in hexadecimal, for a message.
+fn to_hex(bytes: &[u8]) -> String {
+    bytes.iter().map(|byte| format!("{byte:02x}")).collect()
+}

@@ -1,0 +1,214 @@
+//! The proved solver against the peer on rule files: reading, figure, verdict and cut.
+
+#![cfg(not(feature = "no-ffi"))]
+
+#[allow(dead_code)]
+mod common;
+
+use common::{random, rounds, Pair, CUT, FIGURE, READ, VERDICT};
+use peer::ffi::{plain, Place};
+use peer::generate::{self, DerivationDraft, LineDraft, RuleDraft};
+use peer::{to_bytes, to_words};
+
+#[test]
+fn valid_files() {
+    let (mut random, mut pair) = (random(101), Pair::new());
+    for round in 0..rounds(40_000) {
+        let most = if round % 8 == 0 { 12 } else { 7 };
+        let draft = generate::small_rule(&mut random, most);
+        pair.rule(&mut random, &draft.bytes());
+    }
+    pair.report("valid_files");
+    pair.reached(FIGURE, [0], 35_000);
+    pair.reached(VERDICT, [0, 10, 11], 1_000);
+    pair.reached(CUT, [0, 12], 10_000);
+    assert!(pair.verdicts.iter().all(|count| *count > 1_000), "within, above, below: {:?}", pair.verdicts);
+}
+
+#[test]
+fn long_files() {
+    let (mut random, mut pair) = (random(102), Pair::new());
+    for _ in 0..rounds(120) {
+        let draft = generate::long_rule(&mut random);
+        let mut bytes = draft.bytes();
+        pair.rule(&mut random, &bytes);
+        for _ in 0..20 {
+            let good = bytes.clone();
+            generate::damage_rule(&mut random, &mut bytes);
+            pair.read(&mut random, &bytes);
+            bytes = good;
+        }
+    }
+    // Around the longest file that is accepted: 65,536 bytes.
+    let mut clauses = vec![vec![0]];
+    for at in 0..1_023 {
+        clauses.push((0..if at < 969 { 15 } else { 14 }).map(|v| 2 * v).collect());
+    }
+    let words = RuleDraft { clauses, prefix: vec![[1, 2]; 32] }.words();
+    assert_eq!(words.len(), 16_384);
+    pair.rule(&mut random, &to_bytes(&words));
+    for extra in 1..=4_096 {
+        let mut bytes = to_bytes(&words);
+        bytes.resize(65_536 + extra, 0);
+        pair.read(&mut random, &bytes);
+    }
+    pair.report("long_files");
+    pair.reached(READ, [0, 1, 2, 3, 4, 5, 6, 7, 8], 1);
+    pair.reached(FIGURE, [0], 60);
+}
+
+/// Files of 10 to 32 variables whose tree is small enough to walk.
+#[test]
+fn wide_files() {
+    let (mut random, mut pair) = (random(109), Pair::new());
+    for _ in 0..rounds(400) {
+        let n = random.within(10, 32);
+        let m = random.within(n, 8 * n);
+        let draft = generate::rule(&mut random, n, m);
+        pair.rule(&mut random, &draft.bytes());
+    }
+    pair.report("wide_files");
+    pair.reached(FIGURE, [0], 200);
+}
+
+#[test]
+fn damaged_files() {
+    let (mut random, mut pair) = (random(103), Pair::new());
+    for _ in 0..rounds(50_000) {
+        let mut bytes = generate::small_rule(&mut random, 7).bytes();
+        for _ in 0..random.within(1, 3) {
+            generate::damage_rule(&mut random, &mut bytes);
+        }
+        pair.rule(&mut random, &bytes);
+    }
+    pair.report("damaged_files");
+    for operation in [READ, FIGURE, VERDICT, CUT] {
+        pair.reached(operation, 0..=8, 50);
+    }
+}
+
+/// Files with one fault or several, each of 1 to 9 reached by each operation.
+#[test]
+fn faulty_files() {
+    let (mut random, mut pair) = (random(104), Pair::new());
+    for _ in 0..rounds(50_000) {
+        let mut faults: Vec<u32> = (1..=9).collect();
+        random.shuffle(&mut faults);
+        faults.truncate(random.pick(&[1, 1, 1, 2, 3]));
+        let bytes = generate::faulty_rule(&mut random, &faults);
+        pair.rule(&mut random, &bytes);
+    }
+    pair.report("faulty_files");
+    for operation in [READ, FIGURE, VERDICT, CUT] {
+        pair.reached(operation, 0..=9, 300);
+    }
+}
+
+#[test]
+fn noise() {
+    let (mut random, mut pair) = (random(105), Pair::new());
+    for _ in 0..rounds(50_000) {
+        let bytes = generate::noise(&mut random);
+        pair.rule(&mut random, &bytes);
+    }
+    pair.report("noise");
+    pair.reached(READ, [0, 1, 3, 4, 5, 7, 8], 10);
+}
+
+/// Files cut at every byte; and at every word, with the last word set right again.
+#[test]
+fn cut_files() {
+    let (mut random, mut pair) = (random(106), Pair::new());
+    let mut files = vec![generate::sample().0.bytes()];
+    for _ in 0..rounds(60) {
+        files.push(generate::small_rule(&mut random, 8).bytes());
+    }
+    for bytes in &files {
+        for len in 0..=bytes.len() {
+            pair.rule(&mut random, &bytes[..len]);
+            pair.rule(&mut random, &bytes[bytes.len() - len..]);
+        }
+        let words = to_words(bytes);
+        for len in 1..words.len() {
+            for part in [&words[..len], &words[words.len() - len..]] {
+                let mut part = part.to_vec();
+                part[len - 1] = len as u32;
+                pair.rule(&mut random, &to_bytes(&part));
+            }
+        }
+    }
+    // A long file, at every byte of its first 6,000.
+    let bytes = generate::long_rule(&mut random).bytes();
+    for len in 0..=bytes.len().min(6_000) {
+        pair.read(&mut random, &bytes[..len]);
+    }
+    pair.report("cut_files");
+    pair.reached(READ, [0, 1, 2, 3, 4, 5], 10);
+}
+
+/// Every word of document 01's file, and of others, changed to each of many words.
+#[test]
+fn changed_words() {
+    let (mut random, mut pair) = (random(107), Pair::new());
+    let mut files = vec![generate::sample().0.words()];
+    for _ in 0..rounds(20) {
+        files.push(generate::rule(&mut random, 3, 4).words());
+    }
+    let mut others: Vec<u32> = (0..=20).collect();
+    others.extend([32, 33, 1_024, 1_025, 65_535, 65_536, 1 << 31, (1 << 31) + 3, u32::MAX - 5, u32::MAX]);
+    for words in &files {
+        for at in 0..words.len() {
+            for &other in &others {
+                let mut words = words.clone();
+                words[at] = other;
+                pair.rule(&mut random, &to_bytes(&words));
+            }
+        }
+    }
+    pair.report("changed_words");
+    pair.reached(READ, [0, 2, 3, 4, 5, 6, 7, 8], 10);
+}
+
+/// The same on pages that may only be read: a write would end the process.
+#[test]
+fn read_only_pages() {
+    let mut random = random(108);
+    let mut library = peer::ffi::Library::new();
+    library.lend_derivation(&generate::sample().1.bytes(), Place::AtEnd);
+    for round in 0..rounds(500) {
+        let mut bytes = generate::small_rule(&mut random, 6).bytes();
+        if round % 2 == 1 {
+            generate::damage_rule(&mut random, &mut bytes);
+        }
+        library.lend_rule(&bytes, Place::AtEnd);
+        library.read_only(true);
+        library.read();
+        library.figure();
+        library.verdict(0, 1);
+        library.cut(2);
+        library.check();
+        library.read_only(false);
+    }
+}
+
+/// The deepest trees and the longest files in a thread with a stack of 1 MiB, all of it guarded.
+#[test]
+fn small_stack() {
+    // Thirty-two variables, each decided by its own clause: the tree is as deep as it can be.
+    let clauses: Vec<Vec<u32>> = (0..32).rev().map(|v| vec![2 * v]).collect();
+    let deep = RuleDraft { clauses, prefix: vec![[1, 2]; 32] }.bytes();
+    let rule = RuleDraft::new(&[], &[[0, 0]; 13]).bytes();
+    let line = LineDraft { literals: (0..12).map(|v| 2 * v).collect(), value: 1, resolved: None };
+    let mut draft = DerivationDraft { lines: vec![line; 1_023], closing: 2_047 };
+    draft.lines.push(LineDraft { literals: Vec::new(), value: 1, resolved: None });
+    let steps = draft.bytes();
+    let mut answers = Vec::new();
+    let used = peer::guard::on_stack(1 << 20, &mut || {
+        answers.push(plain::figure(&deep));
+        answers.push(plain::cut(&deep, 32));
+        answers.push(plain::check(&rule, &steps));
+    });
+    println!("small_stack: {used} bytes of stack used");
+    let whole = 3u64.pow(32);
+    assert_eq!(answers, [(0, [1, whole, 0, 0]), (0, [1, 1, 0, 0]), (0, [1, 1, 0, 0])]);
+}

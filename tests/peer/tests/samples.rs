@@ -1,0 +1,54 @@
+//! The run samples against their stored answers: the peer and the proved solver.
+
+use peer::samples;
+
+/// The peer gives the answers that were derived by hand.
+#[test]
+fn peer() {
+    for case in samples::cases() {
+        assert_eq!(case.solve(), case.expected, "{}", case.name);
+    }
+}
+
+/// The program `run_samples` is run on these cases, and held to these answers.
+#[test]
+fn program() {
+    let cases = samples::cases();
+    let records: Vec<u8> = cases.iter().flat_map(|case| case.record()).collect();
+    let lines: String = cases.iter().map(|case| case.line()).collect();
+    assert!(records == include_bytes!("../../../crates/run_samples/stdin"), "stdin is not as made");
+    assert!(lines == include_str!("../../../crates/run_samples/stdout"), "stdout is not as made");
+}
+
+/// Every number from 0 to 21 is among the answers.
+#[test]
+fn every_number() {
+    let cases = samples::cases();
+    for code in 0..=21 {
+        assert!(cases.iter().any(|case| case.expected.code == code), "no case for {code}");
+    }
+}
+
+#[cfg(not(feature = "no-ffi"))]
+#[test]
+fn library() {
+    use peer::cases::Operation;
+    use peer::ffi::{Library, Place, BEFORE};
+    let mut library = Library::new();
+    for case in samples::cases() {
+        for place in [Place::AtEnd, Place::AtStart] {
+            library.lend_rule(&case.rule, place);
+            let got = match &case.operation {
+                Operation::Read => library.read(),
+                Operation::Figure => library.figure(),
+                Operation::Verdict(lo, hi) => library.verdict(*lo, *hi),
+                Operation::Cut(level) => library.cut(*level),
+                Operation::Check(derivation) => {
+                    library.lend_derivation(derivation, place);
+                    library.check()
+                }
+            };
+            assert_eq!(got, (case.expected.code, case.expected.out(BEFORE)), "{}", case.name);
+        }
+    }
+}
