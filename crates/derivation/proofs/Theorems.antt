@@ -19,7 +19,7 @@ use Rattle.resolution.specs.Resolution.{level, derived, line-at, line, closing-
 use Rattle.resolution.proofs.Check.{judge-lines-iff, closing-iff}
 use Rattle.resolution.proofs.Derivations.{accepted-sound, closing-is-figure}
 use Rattle.derivation.specs.DerivationFile.{line-count, closing-reference, lines}
-use Rattle.derivation.specs.Check.{line-fault, refuse-at, close, check-from-17, check-from-15, check-from-13, check-file}
+use Rattle.derivation.specs.Check.{line-fault, refuse-at, close, check-from-21, check-from-17, check-from-15, check-from-13, check-file}
 use Rattle.derivation.specs.WellFormed.{WellFormed}
 use Rattle.derivation.specs.Derives.{Derives}
 use Rattle.derivation.specs.declared.Closing.{Closing}
@@ -68,9 +68,9 @@ module _ (b d : List ℕ) (c : Closing) where
 
   lines-answered : check-from-17 b d ≡ answer c
       → (judge-lines (clauses b) (prefix b) (lines d) ≡ none) × (closing ≡ some (c .value)) × (c .whole ≡ whole b)
-  unfolding check-from-17
+  unfolding check-from-17 check-from-21
   lines-answered e₁₇ =
-      let (p₁₇, e₂₁) = passed-at (judge-lines (clauses b) (prefix b) (lines d)) (close closing (whole b)) c e₁₇ in
+      let (p₁₇, e₂₁) = passed-at (judge-lines (clauses b) (prefix b) (lines d)) (check-from-21 b d) c e₁₇ in
       let (closes, out) = closed closing (whole b) c e₂₁ in
       (p₁₇, closes, out)
 
@@ -89,7 +89,7 @@ module _ (b d : List ℕ) (c : Closing) where
       }
 
   derives-accepted : Derives b d c → check-file b d ≡ answer c
-  unfolding check-file check-from-13 check-from-15 check-from-17
+  unfolding check-file check-from-13 check-from-15 check-from-17 check-from-21
   derives-accepted v =
       let w = v .well-formed in
       let t = w .counted in

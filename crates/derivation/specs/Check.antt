@@ -60,10 +60,11 @@ close none whole = refused 21 none
 close (some x) whole = answer (record { value = x; whole = whole })
 
 -- the checks from 21 back to 13; judge-lines has 17 to 20
+unfoldable pub check-from-21 : List ℕ → List ℕ → Answer Closing
+check-from-21 b d = close (closing-value (clauses b) (lines d) (closing-reference d)) (whole b)
+
 unfoldable pub check-from-17 : List ℕ → List ℕ → Answer Closing
-check-from-17 b d =
-    refuse-at (judge-lines (clauses b) (prefix b) (lines d))
-    (close (closing-value (clauses b) (lines d) (closing-reference d)) (whole b))
+check-from-17 b d = refuse-at (judge-lines (clauses b) (prefix b) (lines d)) (check-from-21 b d)
 
 unfoldable pub check-from-15 : List ℕ → List ℕ → Answer Closing
 check-from-15 b d =

@@ -15,11 +15,9 @@ use rule_file::Reading;
 use rule_file::read;
 use rule_file::words::word;
 ghost use mathlib.Core.Path.{_≡_};
-ghost use Rattle.rule_file.specs.RuleFile.{clauses, whole};
 ghost use Rattle.rule_file.specs.Accepted.{Accepted, header as header-of};
-ghost use Rattle.resolution.specs.Resolution.{closing-value};
-ghost use Rattle.derivation.specs.DerivationFile.{line-count, closing-reference, lines};
-ghost use Rattle.derivation.specs.Check.{checking, check-file, check-from-13, check-from-15, check-from-17, close};
+ghost use Rattle.derivation.specs.DerivationFile.{line-count};
+ghost use Rattle.derivation.specs.Check.{checking, check-file, check-from-13, check-from-15, check-from-17, check-from-21};
 ghost use Rattle.derivation.specs.WellFormed.{Counted};
 ghost use Rattle.derivation.specs.Judging.{Readable};
 
@@ -43,7 +41,8 @@ pub enum Fault {
 }
 
 // Checks a derivation over a rule file, whatever the bytes of both are: the rule file's refusals, the derivation's, or
-// the closing value, which is the figure, and the whole.
+// the closing value, which is the figure, and the whole. The files have one lifetime, since a parent is a part of
+// either of them.
 pub fn check<'a>(rule: &'a [u8], derivation: &'a [u8]) -> Checking
     ensures answer { λ r. ⌜ checking r ≡ check-file (now (rule .entry)) (now (derivation .entry)) ⌝ }
     ensures rule_unchanged { λ _. ⌜ now (rule .exit) ≡ now (rule .entry) ⌝ }
@@ -118,7 +117,7 @@ fn check_lines<'a>(rule: &'a [u8], derivation: &'a [u8], header: Header, count: 
 fn check_closing<'a>(rule: &'a [u8], derivation: &'a [u8], header: Header, count: usize) -> Checking
     requires { ⌜ Readable (now rule) (now derivation) header ⌝ }
     requires { ⌜ count ≡ line-count (now derivation) ⌝ }
-    ensures { λ r. ⌜ checking r ≡ close (closing-value (clauses (now (rule .entry))) (lines (now (derivation .entry))) (closing-reference (now (derivation .entry)))) (whole (now (rule .entry))) ⌝ }
+    ensures { λ r. ⌜ checking r ≡ check-from-21 (now (rule .entry)) (now (derivation .entry)) ⌝ }
 {
     let reference = word(derivation, derivation.len() / 4 - 2);
     if !is_named(reference, header.clauses, count) {

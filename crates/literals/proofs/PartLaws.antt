@@ -5,7 +5,7 @@ use mathlib.Core.List.{List, _∷_, _++_}
 use Prim.Native.Nat.{ℕ, zero, suc, _+_, _-_, _*_, _^_, _≤_}
 use native.Mathlib.Nat.{le-trans, not-suc-le-zero, le-of-suc-le-suc, le-refl, le-mul-of-pos-right, mul-comm}
 use native.Mathlib.Omega.{arith}
-use lib.ListN.{length, take, drop, take-append-drop}
+use lib.ListN.{take, drop, take-append-drop}
 use Rattle.formula.specs.Formula.{some-of}
 use Rattle.formula.specs.Quantifier.{Quantifier, denominator}
 use Rattle.formula.proofs.SomeLaws.{or-false}
@@ -40,14 +40,6 @@ module _ (b : List ℕ) where
   -- a part that goes on to the prefix's end
   pub last-part : (from : ℕ) → drop from (take (variable-count b) (prefix b)) ≡ drop from (prefix b)
   last-part from = ap (drop from) (take-prefix (variable-count b) (variable-count b) (prefix-start b) (le-refl _))
-
-  length-from : (n i : ℕ) → length (prefix-from b n i) ≡ n
-  unfolding prefix-from
-  length-from zero i = refl
-  length-from (suc n) i = ap suc (length-from n (i + 2))
-
-  pub length-prefix : length (prefix b) ≡ variable-count b
-  length-prefix = length-from (variable-count b) (prefix-start b)
 
 -- the quantifiers are well-formed, and their denominator is at most the largest whole
 abbrev pub Within : List Quantifier → Type 0

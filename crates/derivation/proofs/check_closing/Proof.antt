@@ -9,6 +9,7 @@ use borrow.Author.Needs.{needs}
 use Rattle.rule_file.specs.RuleFile.{clause-count}
 use Rattle.rule_file.specs.Answer.{answer}
 use Rattle.derivation.specs.DerivationFile.{line-count, closing-reference}
+use Rattle.derivation.specs.Check.{check-from-21}
 use Rattle.derivation.specs.Parent.{is-named, referent-literals, referent-value}
 use Rattle.derivation.proofs.ParentLaws.{named-line}
 use Rattle.derivation.proofs.JudgeLaws.{walked-file}
@@ -17,20 +18,36 @@ use Rattle.derivation.proofs.check_closing.Statement.{statement}
 use Rattle.derivation.proofs.check_closing.Tie as tie
 
 -- the test is on the closing reference
-test : (c : tie.After-is-named) → c .is-named .result ≡ is-named (clause-count (c .before .before .before .before .args .rule .now)) (line-count (c .before .before .before .before .args .derivation .now)) (closing-reference (c .before .before .before .before .args .derivation .now))
+test : (c : tie.After-is-named) →
+    let b = c .before .before .before .before .args .rule .now in
+    let d = c .before .before .before .before .args .derivation .now in
+    c .is-named .result ≡ is-named (clause-count b) (line-count d) (closing-reference d)
 test c =
-    c .is-named .ensures ∙
-    (λ j. is-named (ap (λ h. h .clauses) (c .before .before .before .before .pre .0 .header-is) j) (c .before .before .before .before .pre .1 j) (c .before .word .ensures .0 j))
+    let s = c .before .before .before .before in
+    let m = ap (λ h. h .clauses) (s .pre .0 .header-is) in
+    c .is-named .ensures ∙ (λ j. is-named (m j) (s .pre .1 j) (c .before .word .ensures .0 j))
 
-named : (c : tie.Else1) → is-named (clause-count (c .before .before .before .before .before .args .rule .now)) (line-count (c .before .before .before .before .before .args .derivation .now)) (closing-reference (c .before .before .before .before .before .args .derivation .now)) ≡ true
+named : (c : tie.Else1) →
+    let b = c .before .before .before .before .before .args .rule .now in
+    let d = c .before .before .before .before .before .args .derivation .now in
+    is-named (clause-count b) (line-count d) (closing-reference d) ≡ true
 named c = sym (test (c .before)) ∙ not-false _ (c .if1 .left)
 
-named-read : (c : tie.Else1) → is-named (clause-count (c .before .before .before .before .before .args .rule .now)) (line-count (c .before .before .before .before .before .args .derivation .now)) (c .before .before .word .result) ≡ true
+named-read : (c : tie.Else1) →
+    let b = c .before .before .before .before .before .args .rule .now in
+    let d = c .before .before .before .before .before .args .derivation .now in
+    is-named (clause-count b) (line-count d) (c .before .before .word .result) ≡ true
 named-read c = rw (c .before .before .word .ensures .0) (named c)
 
 -- as many literals as the part has words
-size : (c : tie.After-parent) → length (c .parent .result .now) / 4 ≡ length (referent-literals (c .before .before .before .before .before .before .args .rule .now) (c .before .before .before .before .before .before .args .derivation .now) (closing-reference (c .before .before .before .before .before .before .args .derivation .now)))
-size c = sym (words-length _ 0 _) ∙ ap length (c .parent .ensures ∙ ap (referent-literals (c .before .before .before .before .before .before .args .rule .now) (c .before .before .before .before .before .before .args .derivation .now)) (c .before .before .before .word .ensures .0))
+size : (c : tie.After-parent) →
+    let b = c .before .before .before .before .before .before .args .rule .now in
+    let d = c .before .before .before .before .before .before .args .derivation .now in
+    length (c .parent .result .now) / 4 ≡ length (referent-literals b d (closing-reference d))
+size c =
+    let b = c .before .before .before .before .before .before .args .rule .now in
+    let d = c .before .before .before .before .before .before .args .derivation .now in
+    sym (words-length _ 0 _) ∙ ap length (c .parent .ensures ∙ ap (referent-literals b d) (c .before .before .before .word .ensures .0))
 
 sub-word : tie.Need-sub-word
 sub-word c = search needs
@@ -42,22 +59,26 @@ is-named-requires : tie.Need-is-named-requires
 is-named-requires c κs = search needs
 
 returns : tie.Need-returns
+unfolding check-from-21
 returns c = rw (closing-absent _ _ _ (sym (test (c .before)) ∙ not-true _ (c .if1 .taken)))
 
 parent-requires : tie.Need-parent-requires
-parent-requires c κs = (c .before .before .before .before .before .pre .0 .accepted, (walked-file (c .before .before .before .before .before .pre .0), named-read c))
+parent-requires c κs = let r = c .before .before .before .before .before .pre .0 in (r .accepted, (walked-file r, named-read c))
 
 returns-2 : tie.Need-returns-2
+unfolding check-from-21
 returns-2 c = rw (closing-with-literals _ _ _ (named (c .before .before)) (λ e. let s = size (c .before) in omega arith))
 
 parent-value-requires : tie.Need-parent-value-requires
 parent-value-requires c κs = (walked-file (c .before .before .before .before .before .before .before .pre .0), λ e. named-line _ (λ z. omega arith) _ _ (named-read (c .before .before)))
 
 returns-3 : tie.Need-returns-3
+unfolding check-from-21
 returns-3 c =
-    let s = size (c .before .before) in
-    rw (closing-empty _ _ _ (named (c .before .before .before)) (omega arith))
-    (λ j. answer (record { value = (c .parent-value .ensures ∙ ap (referent-value (c .before .before .before .before .before .before .before .before .args .derivation .now)) (c .before .before .before .before .before .word .ensures .0)) j; whole = ap (λ h. h .whole) (c .before .before .before .before .before .before .before .before .pre .0 .header-is) j }))
+    let empty = size (c .before .before) in
+    let value = c .parent-value .ensures ∙ ap (referent-value _) (c .before .before .before .before .before .word .ensures .0) in
+    let whole = ap (λ h. h .whole) (c .before .before .before .before .before .before .before .before .pre .0 .header-is) in
+    rw (closing-empty _ _ _ (named (c .before .before .before)) (omega arith)) (λ j. answer (record { value = value j; whole = whole j }))
 
 pub check-closing-spec : {M : Type 1} → statement M
 check-closing-spec =

@@ -14,7 +14,9 @@ length-is : (c : tie.Else3) → wrong-length (c .before .before .before .before 
 length-is c = check-13 _ .1 (c .before .before .if1 .left, c .before .if2 .left, c .if3 .left)
 
 counts-are : (c : tie.Else5) → wrong-counts (c .before .before .before .before .before .before .before .before .before .args .derivation .now) ≡ false
-counts-are c = check-14 _ .1 (sym (c .before .before .before .word .ensures .0) ∙ c .before .before .if4 .left, rw (c .before .word2 .ensures .0) at (c .if5 .left))
+counts-are c =
+    let lines = rw (c .before .word2 .ensures .0) at (c .if5 .left) in
+    check-14 _ .1 (sym (c .before .before .before .word .ensures .0) ∙ c .before .before .if4 .left, lines)
 
 returns : tie.Need-returns
 unfolding check-from-13
@@ -36,7 +38,9 @@ word-requires c κs = search needs
 
 returns-4 : tie.Need-returns-4
 unfolding check-from-13
-returns-4 c = rw (length-is (c .before .before), fails (check-14 (c .before .before .before .before .before .before .before .args .derivation .now)) (λ h. c .if4 .taken (c .before .word .ensures .0 ∙ h .0)))
+returns-4 c =
+    let d = c .before .before .before .before .before .before .before .args .derivation .now in
+    rw (length-is (c .before .before), fails (check-14 d) (λ h. c .if4 .taken (c .before .word .ensures .0 ∙ h .0)))
 
 sub-word-2 : tie.Need-sub-word-2
 sub-word-2 c = search needs
@@ -46,7 +50,10 @@ word-requires-2 c κs = search needs
 
 returns-5 : tie.Need-returns-5
 unfolding check-from-13
-returns-5 c = rw (length-is (c .before .before .before .before), fails (check-14 (c .before .before .before .before .before .before .before .before .before .args .derivation .now)) (λ h. not-le-of-lt (rw (c .before .word2 .ensures .0) at (c .if5 .taken)) (h .1)))
+returns-5 c =
+    let d = c .before .before .before .before .before .before .before .before .before .args .derivation .now in
+    let many = rw (c .before .word2 .ensures .0) at (c .if5 .taken) in
+    rw (length-is (c .before .before .before .before), fails (check-14 d) (λ h. not-le-of-lt many (h .1)))
 
 check-structure-requires : tie.Need-check-structure-requires
 check-structure-requires c κs = search needs

@@ -1,6 +1,7 @@
 -- `check_structure` meets its contract: 15, then 16. Assumes nothing.
 use mathlib.Core.Path.{_≡_, sym, ap, _∙_}
-use mathlib.Core.Option.{none}
+use mathlib.Core.Option.{Option, none}
+use Prim.Native.Nat.{ℕ}
 use borrow.Author.Needs.{needs}
 use Rattle.rule_file.specs.RuleFile.{variable-count}
 use Rattle.rule_file.specs.Reader.{first}
@@ -10,25 +11,36 @@ use Rattle.derivation.proofs.CheckLaws.{numbered-none, first-none}
 use Rattle.derivation.proofs.check_structure.Statement.{statement}
 use Rattle.derivation.proofs.check_structure.Tie as tie
 
--- what the walk and the test of the literals find
-walk-is : (c : tie.After-walk-fault) → fault (c .walk-fault .result) ≡ numbered 15 (walk-lines (c .before .before .before .before .args .derivation .now) (variable-count (c .before .before .before .before .args .rule .now)) (trailer-start (c .before .before .before .before .args .derivation .now)) (line-count (c .before .before .before .before .args .derivation .now)) 0)
-walk-is c =
-    c .walk-fault .ensures ∙
-    (λ j. numbered 15 (walk-lines (c .before .before .before .before .args .derivation .now) (ap (λ h. h .variables) (c .before .before .before .before .pre .1 .0) j) (trailer-start (c .before .before .before .before .args .derivation .now)) (c .before .word .ensures .0 j) 0))
+-- what 15 and 16 find
+abbrev walk-place : tie.Start → Option ℕ
+walk-place s =
+    let d = s .args .derivation .now in walk-lines d (variable-count (s .args .rule .now)) (trailer-start d) (line-count d) 0
 
-literal-is : (c : tie.After-literal-fault) → fault (c .literal-fault .result) ≡ numbered 16 (first (line-fault (variable-count (c .before .before .before .before .before .before .before .args .rule .now))) (lines (c .before .before .before .before .before .before .before .args .derivation .now)))
+abbrev literal-place : tie.Start → Option ℕ
+literal-place s = first (line-fault (variable-count (s .args .rule .now))) (lines (s .args .derivation .now))
+
+-- what the code finds is that
+walk-is : (c : tie.After-walk-fault) → fault (c .walk-fault .result) ≡ numbered 15 (walk-place (c .before .before .before .before))
+walk-is c =
+    let s = c .before .before .before .before in
+    let d = s .args .derivation .now in
+    let n = ap (λ h. h .variables) (s .pre .1 .0) in
+    c .walk-fault .ensures ∙ (λ j. numbered 15 (walk-lines d (n j) (trailer-start d) (c .before .word .ensures .0 j) 0))
+
+literal-is : (c : tie.After-literal-fault) → fault (c .literal-fault .result) ≡ numbered 16 (literal-place (c .before .before .before .before .before .before .before))
 literal-is c =
-    c .literal-fault .ensures ∙
-    (λ j. numbered 16 (first (line-fault (ap (λ h. h .variables) (c .before .before .before .before .before .before .before .pre .1 .0) j)) (lines-from (c .before .before .before .before .before .before .before .args .derivation .now) (c .before .before .before .before .word .ensures .0 j) 0)))
+    let s = c .before .before .before .before .before .before .before in
+    let n = ap (λ h. h .variables) (s .pre .1 .0) in
+    c .literal-fault .ensures ∙ (λ j. numbered 16 (first (line-fault (n j)) (lines-from (s .args .derivation .now) (c .before .before .before .before .word .ensures .0 j) 0)))
 
 -- past each of them its check is passed
-walk-found : (c : tie.After-enum-told) → none ≡ numbered 15 (walk-lines (c .before .before .before .before .before .before .args .derivation .now) (variable-count (c .before .before .before .before .before .before .args .rule .now)) (trailer-start (c .before .before .before .before .before .before .args .derivation .now)) (line-count (c .before .before .before .before .before .before .args .derivation .now)) 0)
+walk-found : (c : tie.After-enum-told) → none ≡ numbered 15 (walk-place (c .before .before .before .before .before .before))
 walk-found c = sym (ap fault (c .enum-told .given .1)) ∙ walk-is (c .before .before)
 
-walked : (c : tie.After-enum-told) → walk-lines (c .before .before .before .before .before .before .args .derivation .now) (variable-count (c .before .before .before .before .before .before .args .rule .now)) (trailer-start (c .before .before .before .before .before .before .args .derivation .now)) (line-count (c .before .before .before .before .before .before .args .derivation .now)) 0 ≡ none
+walked : (c : tie.After-enum-told) → walk-place (c .before .before .before .before .before .before) ≡ none
 walked c = numbered-none 15 _ (sym (walk-found c))
 
-literal-found : (c : tie.After-enum-told2) → none ≡ numbered 16 (first (line-fault (variable-count (c .before .before .before .before .before .before .before .before .before .args .rule .now))) (lines (c .before .before .before .before .before .before .before .before .before .args .derivation .now)))
+literal-found : (c : tie.After-enum-told2) → none ≡ numbered 16 (literal-place (c .before .before .before .before .before .before .before .before .before))
 literal-found c = sym (ap fault (c .enum-told2 .given .1)) ∙ literal-is (c .before .before)
 
 sub-end : tie.Need-sub-end
@@ -52,8 +64,9 @@ enum-told c = search needs
 
 literal-fault-requires : tie.Need-literal-fault-requires
 literal-fault-requires c κs =
-    let n = ap (λ h. h .variables) (c .before .before .before .before .before .before .pre .1 .0) in
-    (rw n (c .before .before .before .before .before .before .pre .0 .few-variables), rw (n, c .before .before .before .word .ensures .0) (walked c))
+    let s = c .before .before .before .before .before .before in
+    let n = ap (λ h. h .variables) (s .pre .1 .0) in
+    (rw n (s .pre .0 .few-variables), rw (n, c .before .before .before .word .ensures .0) (walked c))
 
 enum-known-literal : tie.Need-enum-known-literal
 enum-known-literal c = search needs
@@ -66,19 +79,16 @@ enum-told-2 : tie.Need-enum-told-2
 enum-told-2 c = search needs
 
 check-lines-requires : tie.Need-check-lines-requires
-check-lines-requires c κs = (
-  record {
-    accepted = c .before .before .before .before .before .before .before .before .before .pre .0;
-    header-is = c .before .before .before .before .before .before .before .before .before .pre .1 .0;
-    well-formed =
-        record {
-          counted = c .before .before .before .before .before .before .before .before .before .pre .1 .1;
-          walked = walked (c .before .before .before);
-          no-fault = first-none _ _ (numbered-none 16 _ (sym (literal-found c)));
-        };
-  },
-  c .before .before .before .before .before .before .word .ensures .0,
-)
+check-lines-requires c κs =
+    let s = c .before .before .before .before .before .before .before .before .before in
+    let no-fault = first-none _ _ (numbered-none 16 _ (sym (literal-found c))) in (
+      record {
+        accepted = s .pre .0;
+        header-is = s .pre .1 .0;
+        well-formed = record { counted = s .pre .1 .1; walked = walked (c .before .before .before); no-fault = no-fault };
+      },
+      c .before .before .before .before .before .before .word .ensures .0,
+    )
 
 returns-3 : tie.Need-returns-3
 unfolding check-from-15

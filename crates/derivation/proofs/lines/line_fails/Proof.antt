@@ -8,30 +8,32 @@ use Rattle.derivation.proofs.lines.line_fails.Statement.{statement}
 use Rattle.derivation.proofs.lines.line_fails.Tie as tie
 
 add-word : tie.Need-add-word
-add-word c = omega (arith, value-before (c .before .args .derivation .now) (c .before .args .i))
+add-word c = let a = c .before .args in let v = value-before (a .derivation .now) (a .i) in omega arith
 
 word-requires : tie.Need-word-requires
-word-requires c κs = omega (arith, value-before (c .before .args .derivation .now) (c .before .args .i))
+word-requires c κs = let a = c .before .args in let v = value-before (a .derivation .now) (a .i) in omega arith
 
 add-out-of-range : tie.Need-add-out-of-range
-add-out-of-range c = omega (arith, value-before (c .before .before .args .derivation .now) (c .before .before .args .i))
+add-out-of-range c = let a = c .before .before .args in let v = value-before (a .derivation .now) (a .i) in omega arith
 
 out-of-range-requires : tie.Need-out-of-range-requires
-out-of-range-requires c κs = omega (arith, value-before (c .before .before .args .derivation .now) (c .before .before .args .i), c .word .ensures .0)
+out-of-range-requires c κs = let a = c .before .before .args in let v = value-before (a .derivation .now) (a .i) in omega (arith, c .word .ensures .0)
 
 returns : tie.Need-returns
 unfolding line-fault
 returns c = rw (derived-is _ _, ← (c .before .before .word .ensures .0), sym (c .before .out-of-range .ensures) ∙ c .if1 .taken)
 
 add-repeats : tie.Need-add-repeats
-add-repeats c = omega (arith, value-before (c .before .before .before .before .args .derivation .now) (c .before .before .before .before .args .i))
+add-repeats c = let a = c .before .before .before .before .args in let v = value-before (a .derivation .now) (a .i) in omega arith
 
 repeats-requires : tie.Need-repeats-requires
-repeats-requires c κs = omega (arith, value-before (c .before .before .before .before .args .derivation .now) (c .before .before .before .before .args .i), c .before .before .word .ensures .0)
+repeats-requires c κs = let a = c .before .before .before .before .args in let v = value-before (a .derivation .now) (a .i) in omega (arith, c .before .before .word .ensures .0)
 
 returns-2 : tie.Need-returns-2
 unfolding line-fault
-returns-2 c = rw (derived-is _ _, ← (c .before .before .before .word .ensures .0), sym (c .before .before .out-of-range .ensures) ∙ c .before .if1 .left) (c .repeats .ensures)
+returns-2 c =
+    let in-range = sym (c .before .before .out-of-range .ensures) ∙ c .before .if1 .left in
+    rw (derived-is _ _, ← (c .before .before .before .word .ensures .0), in-range) (c .repeats .ensures)
 
 pub line-fails-spec : {M : Type 1} → statement M
 line-fails-spec =

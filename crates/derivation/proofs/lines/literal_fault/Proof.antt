@@ -1,4 +1,5 @@
--- `literal_fault` meets its contract. The loop keeps: where the line at hand stands, and the first line at fault in the rest, counted from the line at hand, is the first of all. Assumes nothing.
+-- `literal_fault` meets its contract. The loop keeps: where the line at hand stands, and the first line at fault in the rest, counted from
+-- the line at hand, is the first of all. Assumes nothing.
 use mathlib.Core.Path.{_≡_, sym, ap, _∙_}
 use Prim.Native.Nat.{_-_, _≤_}
 use native.Mathlib.Nat.{sub-zero}
@@ -22,7 +23,7 @@ abbrev μ-loop : tie.MeasureT-loop
 μ-loop derivation n count line₀ i₀ line i = count - line
 
 -- the line at hand ends before the trailer
-within : (c : tie.In-loop Inv-loop μ-loop) → after-line (c .before .before .before .args .derivation .now) (c .before .loop .i) ≤ trailer-start (c .before .before .before .args .derivation .now)
+within : (c : tie.In-loop Inv-loop μ-loop) → let d = c .before .before .before .args .derivation .now in after-line d (c .before .loop .i) ≤ trailer-start d
 within c = rw (c .before .loop .inv .1) (line-within _ _ _ _ (c .before .before .before .pre .1) _ (c .loop-test .taken))
 
 loop-holds : tie.Need-loop-holds Inv-loop μ-loop
@@ -32,7 +33,9 @@ line-fails-requires : tie.Need-line-fails-requires Inv-loop μ-loop
 line-fails-requires c κs = (omega (arith, within c), omega arith)
 
 returns : tie.Need-returns Inv-loop μ-loop
-returns c = rw (← (c .before .before .before .loop .inv .2), first-here (line-fault _) _ (lines-step _ _ _ _ (c .before .before .loop-test .taken)) (sym (c .before .line-fails .ensures) ∙ c .if1 .taken))
+returns c =
+    let fails = sym (c .before .line-fails .ensures) ∙ c .if1 .taken in
+    rw (← (c .before .before .before .loop .inv .2), first-here (line-fault _) _ (lines-step _ _ _ _ (c .before .before .loop-test .taken)) fails)
 
 after-line-requires : tie.Need-after-line-requires Inv-loop μ-loop
 after-line-requires c κs = omega (arith, within (c .before .before), value-before (c .before .before .before .before .before .args .derivation .now) (c .before .before .before .loop .i))
@@ -46,11 +49,11 @@ loop-less c = omega arith
 loop-again : tie.Need-loop-again Inv-loop μ-loop
 loop-again c =
     let e = c .after-line .ensures in
-    let h = c .before .before .before .loop-test .taken in
+    let passes = sym (c .before .before .line-fails .ensures) ∙ c .before .if1 .left in
     let inv = c .before .before .before .before .loop .inv in (
       omega arith,
       e ∙ ap (after-line _) (inv .1) ∙ line-start-suc _ _,
-      rw e (first-later (line-fault _) _ (lines-step _ _ _ _ h) (sym (c .before .before .line-fails .ensures) ∙ c .before .if1 .left)) ∙ inv .2,
+      rw e (first-later (line-fault _) _ (lines-step _ _ _ _ (c .before .before .before .loop-test .taken)) passes) ∙ inv .2,
     )
 
 returns-2 : tie.Need-returns-2 Inv-loop μ-loop

@@ -1,4 +1,5 @@
--- `walk_fault` meets its contract. The loop keeps: what the walk from here finds, counted from the line at hand, is what the whole walk finds. Assumes nothing.
+-- `walk_fault` meets its contract. The loop keeps: what the walk from here finds, counted from the line at hand, is what the whole walk finds.
+-- Assumes nothing.
 use mathlib.Core.Path.{_≡_, sym, ap, _∙_}
 use mathlib.Core.Bool.{true}
 use mathlib.Core.Option.{some}
@@ -19,7 +20,8 @@ abbrev μ-loop : tie.MeasureT-loop
 μ-loop derivation n end count line₀ i₀ line i = count - line
 
 -- past the test the line at hand fits
-fits : (c : tie.Else1 Inv-loop μ-loop) → line-fits (c .before .before .before .before .before .args .derivation .now) (c .before .before .before .before .before .args .n) (c .before .before .before .before .before .args .end) (c .before .before .before .loop .i) ≡ true
+fits : (c : tie.Else1 Inv-loop μ-loop) →
+    let a = c .before .before .before .before .before .args in line-fits (a .derivation .now) (a .n) (a .end) (c .before .before .before .loop .i) ≡ true
 fits c = sym (c .before .line-fits .ensures) ∙ not-false _ (c .if1 .left)
 
 loop-holds : tie.Need-loop-holds Inv-loop μ-loop
@@ -29,7 +31,9 @@ line-fits-requires : tie.Need-line-fits-requires Inv-loop μ-loop
 line-fits-requires c κs = omega arith
 
 returns : tie.Need-returns Inv-loop μ-loop
-returns c = rw (← (c .before .before .before .loop .inv .2), walk-fault _ _ _ _ (c .before .before .loop-test .taken) _ _ (sym (c .before .line-fits .ensures) ∙ not-true _ (c .if1 .taken)))
+returns c =
+    let misfit = sym (c .before .line-fits .ensures) ∙ not-true _ (c .if1 .taken) in
+    rw (← (c .before .before .before .loop .inv .2), walk-fault _ _ _ _ (c .before .before .loop-test .taken) _ _ misfit)
 
 after-line-requires : tie.Need-after-line-requires Inv-loop μ-loop
 after-line-requires c κs = omega (arith, line-ends _ _ _ _ (fits c), value-before (c .before .before .before .before .before .args .derivation .now) (c .before .before .before .loop .i))
@@ -43,7 +47,8 @@ loop-less c = omega arith
 loop-again : tie.Need-loop-again Inv-loop μ-loop
 loop-again c =
     let e = c .after-line .ensures in
-    (rw e (line-ends _ _ _ _ (fits (c .before))), omega arith, rw e (walk-on _ _ _ _ (c .before .before .before .loop-test .taken) _ _ (fits (c .before))) ∙ c .before .before .before .before .loop .inv .2)
+    let f = fits (c .before) in
+    (rw e (line-ends _ _ _ _ f), omega arith, rw e (walk-on _ _ _ _ (c .before .before .before .loop-test .taken) _ _ f) ∙ c .before .before .before .before .loop .inv .2)
 
 returns-2 : tie.Need-returns-2 Inv-loop μ-loop
 returns-2 c =

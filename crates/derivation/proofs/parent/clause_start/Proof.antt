@@ -15,7 +15,7 @@ abbrev μ-loop : tie.MeasureT-loop
 μ-loop rule j clause₀ i₀ clause i = j - clause
 
 -- the clause at hand stands in the file
-within : (c : tie.In-loop Inv-loop μ-loop) → after-clause (c .before .before .before .args .rule .now) (c .before .loop .i) ≤ word-count (c .before .before .before .args .rule .now)
+within : (c : tie.In-loop Inv-loop μ-loop) → let b = c .before .before .before .args .rule .now in after-clause b (c .before .loop .i) ≤ word-count b
 within c = rw (c .before .loop .inv .1) (clause-within _ (c .before .before .before .pre .0) _ (omega arith))
 
 loop-holds : tie.Need-loop-holds Inv-loop μ-loop
@@ -37,7 +37,9 @@ loop-less : tie.Need-loop-less Inv-loop μ-loop
 loop-less c = omega arith
 
 loop-again : tie.Need-loop-again Inv-loop μ-loop
-loop-again c = (omega arith, ap (λ k. c .before .before .loop .i + 1 + k) (c .word .ensures .0) ∙ ap (after-clause _) (c .before .before .loop .inv .1) ∙ clause-start-suc _ _)
+loop-again c =
+    let l = c .before .before .loop in
+    (omega arith, ap (λ k. l .i + 1 + k) (c .word .ensures .0) ∙ ap (after-clause _) (l .inv .1) ∙ clause-start-suc _ _)
 
 returns : tie.Need-returns Inv-loop μ-loop
 returns c = c .before .loop .inv .1 ∙ ap (clause-start _) (omega arith)

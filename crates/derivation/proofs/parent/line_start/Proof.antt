@@ -15,7 +15,7 @@ abbrev μ-loop : tie.MeasureT-loop
 μ-loop derivation j line₀ i₀ line i = j - line
 
 -- the line at hand ends before the trailer
-within : (c : tie.In-loop Inv-loop μ-loop) → after-line (c .before .before .before .args .derivation .now) (c .before .loop .i) ≤ trailer-start (c .before .before .before .args .derivation .now)
+within : (c : tie.In-loop Inv-loop μ-loop) → let d = c .before .before .before .args .derivation .now in after-line d (c .before .loop .i) ≤ trailer-start d
 within c = rw (c .before .loop .inv .1) (line-within _ _ _ _ (c .before .before .before .pre .0 .walked) _ (omega arith))
 
 loop-holds : tie.Need-loop-holds Inv-loop μ-loop

@@ -10,10 +10,10 @@ use Rattle.derivation.proofs.parent.parent.Statement.{statement}
 use Rattle.derivation.proofs.parent.parent.Tie as tie
 
 -- the clause that an even reference names, and the line that an odd one names
-is-clause : (c : tie.Then1) → c .before .before .before .args .reference / 2 < clause-count (c .before .before .before .args .rule .now)
+is-clause : (c : tie.Then1) → let a = c .before .before .before .args in a .reference / 2 < clause-count (a .rule .now)
 is-clause c = named-clause _ (c .if1 .taken) _ _ (c .before .before .before .pre .1 .1)
 
-is-line : (c : tie.Else1) → c .before .before .before .args .reference / 2 < line-count (c .before .before .before .args .derivation .now)
+is-line : (c : tie.Else1) → let a = c .before .before .before .args in a .reference / 2 < line-count (a .derivation .now)
 is-line c = named-line _ (c .if1 .left) _ _ (c .before .before .before .pre .1 .1)
 
 clause-start-requires : tie.Need-clause-start-requires
@@ -29,10 +29,14 @@ line-literals-requires : tie.Need-line-literals-requires
 line-literals-requires c κs = rw (c .line-start .ensures) (line-value-within _ (c .before .before .before .before .pre .1 .0) _ (is-line (c .before)))
 
 returns : tie.Need-returns
-returns c = c .clause-literals .ensures ∙ rw (c .before .clause-start .ensures) (clause-literals _ (c .before .before .if1 .taken) _ _ (is-clause (c .before .before)))
+returns c =
+    let t = c .before .before in
+    c .clause-literals .ensures ∙ rw (c .before .clause-start .ensures) (clause-literals _ (t .if1 .taken) _ _ (is-clause t))
 
 returns-2 : tie.Need-returns-2
-returns-2 c = c .line-literals .ensures ∙ rw (c .before .line-start .ensures) (line-literals _ (c .before .before .if1 .left) _ (is-line (c .before .before)) _)
+returns-2 c =
+    let t = c .before .before in
+    c .line-literals .ensures ∙ rw (c .before .line-start .ensures) (line-literals _ (t .if1 .left) _ (is-line t) _)
 
 pub parent-spec : {M : Type 1} → statement M
 parent-spec =

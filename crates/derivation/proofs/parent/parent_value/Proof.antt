@@ -10,7 +10,7 @@ use Rattle.derivation.proofs.parent.parent_value.Statement.{statement}
 use Rattle.derivation.proofs.parent.parent_value.Tie as tie
 
 -- the line that an odd reference names
-is-line : (c : tie.Else1) → c .before .before .args .reference / 2 < line-count (c .before .before .args .derivation .now)
+is-line : (c : tie.Else1) → let a = c .before .before .args in a .reference / 2 < line-count (a .derivation .now)
 is-line c = c .before .before .pre .1 (let h = c .if1 .left in omega arith)
 
 returns : tie.Need-returns
@@ -23,7 +23,9 @@ line-value-requires : tie.Need-line-value-requires
 line-value-requires c κs = rw (c .line-start .ensures) (line-value-within _ (c .before .before .before .pre .0) _ (is-line (c .before)))
 
 returns-2 : tie.Need-returns-2
-returns-2 c = c .line-value .ensures ∙ rw (c .before .line-start .ensures) (line-value _ (c .before .before .if1 .left) _ (is-line (c .before .before)))
+returns-2 c =
+    let t = c .before .before in
+    c .line-value .ensures ∙ rw (c .before .line-start .ensures) (line-value _ (t .if1 .left) _ (is-line t))
 
 pub parent-value-spec : {M : Type 1} → statement M
 parent-value-spec = tie.close (tie.spec returns line-start-requires line-value-requires returns-2)
