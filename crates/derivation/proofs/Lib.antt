@@ -7,3 +7,4 @@ pub mod JudgeLaws
 pub mod ResolventLaws
 pub mod CheckLaws
 pub mod Theorems
+pub mod Figure
