@@ -4,8 +4,8 @@
 //!     cargo bench --manifest-path tests/peer/Cargo.toml
 //!
 //! The proved solver runs in a thread with a stack of 1 MiB. "Nodes" are those of the plain tree
-//! that stops at met and lost nodes, counted by the peer. The peer solves each file in two ways:
-//! "walk" visits the same tree, "tables" shares nodes with the same open clauses.
+//! that stops at decided nodes, counted by the peer. The peer solves each file in two ways:
+//! "walk" visits the same tree, "tables" shares nodes with the same undetermined clauses.
 
 #[cfg(feature = "no-ffi")]
 fn main() {

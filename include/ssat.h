@@ -1,27 +1,25 @@
-/* SSAT: stochastic Boolean satisfiability, on rule files and derivation files.
+/* SSAT: stochastic Boolean satisfiability, on rule files and derivation files. What the files hold, what their numbers
+ * mean and where each refusal's border lies is in docs/FORMATS.md.
  *
- * The five functions read the files of document 01. Each returns 0 for an
- * answer, else the number of the refusal. The answer depends on the arguments alone; several
- * threads may call at once.
+ * Each of the five functions returns 0 for an answer, else the number of the refusal. The answer depends on the
+ * arguments alone; several threads may call at once. The whole is the product of the totals of all variables: the value
+ * of the formula, out of the whole, is the maximum probability that every clause holds.
  *
  * Buffers
- *   rule, derivation   lent for reading only: no byte of them changes. `rule` holds `len` bytes
- *                      and `derivation` holds `dlen` bytes, of any content and any alignment;
- *                      no byte past them is read. The pointers are not null, even where the
- *                      length is 0.
- *   out                four numbers, lent for writing; not null, aligned, and no part of the
- *                      other buffers.
+ *   rule, derivation   lent for reading only: no byte of them changes. `rule` holds `len` bytes and `derivation` holds
+ *                      `dlen` bytes, of any content and any alignment; no byte past them is read. The pointers are not
+ *                      null, even where the length is 0.
+ *   out                four numbers, lent for writing; not null, aligned, and no part of the other buffers.
  *     answer           the numbers named below stand in `out` from index 0; the rest is set to 0.
- *     refusal          `out` is unchanged, except that 15 to 20 put the number of the first line
- *                      at fault into out[0].
+ *     refusal          `out` is unchanged, except that 15 to 20 put the number of the first line at fault into out[0].
  *
  * Refusals of the rule file, by every function:
  *    1  length not a multiple of 4, under 16 or over 65,536 bytes
  *    2  the last word is not the word count
  *    3  more than 32 variables or more than 1,024 clauses
  *    4  the prefix does not end where the trailer begins
- *    5  a clause reaches past the prefix start or has more literals than there are variables,
- *       or the clauses do not end at the prefix start
+ *    5  a clause reaches past the prefix start or has more literals than there are variables, or the clauses do not end
+ *       at the prefix start
  *    6  a literal out of range
  *    7  a variable twice in one clause
  *    8  a weight over 65,535, or one weight 0 and the other not
@@ -33,12 +31,12 @@
  * Refusals of the derivation:
  *   13  length not a multiple of 4, under 12 or over 65,536 bytes
  *   14  the last word is not the word count, or more than 1,024 lines
- *   15  a line of no kind, with too many literals or past the trailer's start, or lines that do
- *       not end there (then the line is the line count)
+ *   15  a line of neither kind, with more literals than there are variables or past the trailer's start, or lines that
+ *       do not end there (then the line is the line count)
  *   16  in a line, a literal out of range or a variable twice
- *   17  a kind 1 line that does not meet some clause
+ *   17  a kind 1 line such that some clause has no opposite of a literal of it
  *   18  a kind 2 line whose variable or parent does not exist, or whose parent is not earlier
- *   19  a kind 2 line whose literals are not its parents'
+ *   19  a kind 2 line whose literals are not those of its parents' resolvent
  *   20  a line with a wrong value
  *   21  the closing reference names nothing, or a clause or line with literals
  * The first that applies is returned, in this order; 17 to 20 line by line.
@@ -65,8 +63,7 @@ uint32_t ssat_read(const uint8_t *rule, size_t len, uint64_t out[4]);
 uint32_t ssat_figure(const uint8_t *rule, size_t len, uint64_t out[4]);
 
 /* Compares the value with the limits lo and hi, both out of the whole.
- * out: 0 and the value where lo <= value <= hi; 1 and 0 where it is above hi; 2 and 0 where it
- * is below lo; then 0, 0.
+ * out: 0 and the value where lo <= value <= hi; 1 and 0 where it is above hi; 2 and 0 where it is below lo; then 0, 0.
  * Refusals: 1 to 9, 10, 11. */
 uint32_t ssat_verdict(const uint8_t *rule, size_t len, uint64_t lo, uint64_t hi, uint64_t out[4]);
 

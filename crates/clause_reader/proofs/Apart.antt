@@ -1,5 +1,6 @@
--- One walk by hand for every function that takes a reader apart and calls another on its file and its cursor: it meets the callee's contract, said of the reader's fields.
--- The reader is Copy: what its fields own is lent to the callee, and the reader is kept whole for the exit. Assumes nothing.
+-- One walk by hand for every function that takes a reader apart and calls another on its file and its cursor: it meets
+-- the callee's contract, said of the reader's fields. The reader is Copy: what its fields own is lent to the callee,
+-- and the reader is kept whole for the exit. Assumes nothing.
 use mathlib.Core.Path.{_≡_, refl}
 use Prim.Native.Nat.{ℕ}
 use mathlib.Core.List.{List, [], _∷_}

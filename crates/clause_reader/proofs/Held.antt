@@ -1,4 +1,5 @@
--- What the proofs by hand over a ClauseReader share: the machine values of its fields and its own, and that it is Copy, so that what its fields own is lent and it is kept. Assumes nothing.
+-- What the proofs by hand over a ClauseReader share: the machine values of its fields and its own, and that it is Copy,
+-- so that what its fields own is lent and it is kept. Assumes nothing.
 use mathlib.Core.Path.{_≡_, ap, subst}
 use Prim.Native.Nat.{ℕ}
 use mathlib.Core.List.{List, [], _∷_}

@@ -1,13 +1,17 @@
 // The clause reader's core, on a rule file and a cursor in it.
 use rule_file::Reading;
+use rule_file::Refusal;
 use rule_file::read;
+use rule_file::words::part;
 use rule_file::words::word;
 ghost use mathlib.Core.Path.{_≡_};
-ghost use Rattle.clause_reader.specs.Cursor.{start, clause-at, advance, literals, literals-of};
+ghost use Rattle.clause_reader.specs.Cursor.{start-file, clause-file, advance-file, clause-bytes, placing, stepping};
 
-// A refused file's number; or the word where the next clause stands, its number, and how many clauses the file has.
+// The reader's place.
 pub enum Cursor {
-    Refused(u32),
+    // The file is refused.
+    Refused(Refusal),
+    // The word where the next clause stands, its number, and how many clauses the file has.
     At {
         word: usize,
         number: usize,
@@ -15,26 +19,28 @@ pub enum Cursor {
     },
 }
 
-// What the reader gives: a clause, by its number, the word where its literals begin and their count, with the cursor
-// after it; that none is left; or the file's refusal.
+// What the reader gives.
 pub enum Step {
-    Refused(u32),
+    // The file is refused.
+    Refused(Refusal),
+    // A clause: its number, the word where its literals begin, how many they are, and the cursor after it.
     Clause {
         number: usize,
         start: usize,
         length: usize,
         next: Cursor,
     },
+    // No clause is left.
     Done,
 }
 
-// The cursor at clause 0 of an accepted file; the number of a refused one.
+// The cursor at clause 0 of an accepted file; the refusal of another.
 pub fn start(rule: &[u8]) -> Cursor
-    ensures answer { λ r. ⌜ r ≡ start (now (rule .entry)) ⌝ }
+    ensures answer { λ r. ⌜ placing r ≡ start-file (now (rule .entry)) ⌝ }
     ensures unchanged { λ _. ⌜ now (rule .exit) ≡ now (rule .entry) ⌝ }
 {
     match read(rule) {
-        Reading::Refused(k) => Cursor::Refused(k),
+        Reading::Refused(refusal) => Cursor::Refused(refusal),
         Reading::Accepted(header) => Cursor::At {
             word: 0,
             number: 0,
@@ -45,11 +51,11 @@ pub fn start(rule: &[u8]) -> Cursor
 
 // The clause at a cursor, whatever the cursor is: a clause that would leave the file is not given.
 pub fn clause_at(rule: &[u8], cursor: Cursor) -> Step
-    ensures answer { λ r. ⌜ r ≡ clause-at (now (rule .entry)) cursor ⌝ }
+    ensures answer { λ r. ⌜ stepping r ≡ clause-file (now (rule .entry)) (placing cursor) ⌝ }
     ensures unchanged { λ _. ⌜ now (rule .exit) ≡ now (rule .entry) ⌝ }
 {
     match cursor {
-        Cursor::Refused(k) => Step::Refused(k),
+        Cursor::Refused(refusal) => Step::Refused(refusal),
         Cursor::At {
             word: at,
             number,
@@ -83,7 +89,7 @@ pub fn clause_at(rule: &[u8], cursor: Cursor) -> Step
 
 // The cursor `count` clauses on. It does not move where none is left.
 pub fn advanced(rule: &[u8], cursor: Cursor, count: usize) -> Cursor
-    ensures answer { λ r. ⌜ r ≡ advance (now (rule .entry)) count cursor ⌝ }
+    ensures answer { λ r. ⌜ placing r ≡ advance-file (now (rule .entry)) count (placing cursor) ⌝ }
     ensures unchanged { λ _. ⌜ now (rule .exit) ≡ now (rule .entry) ⌝ }
 {
     let mut at = cursor;
@@ -104,26 +110,9 @@ pub fn advanced(rule: &[u8], cursor: Cursor, count: usize) -> Cursor
     at
 }
 
-// The part of the file that holds `length` literals from word `start` on; empty where they would leave the file.
-pub fn literals(rule: &[u8], start: usize, length: usize) -> &[u8]
-    ensures answer { λ r. ⌜ now r ≡ literals (now (rule .entry)) start length ⌝ }
-    ensures unchanged { λ _. ⌜ now (rule .exit) ≡ now (rule .entry) ⌝ }
-{
-    let count = rule.len() / 4;
-    if count < start {
-        return &rule[..0];
-    }
-    if count - start < length {
-        return &rule[..0];
-    }
-    let from = 4 * start;
-    let to = from + 4 * length;
-    &rule[from..to]
-}
-
 // The literals of the clause at a cursor; empty where none is given.
 pub fn literals_at(rule: &[u8], cursor: Cursor) -> &[u8]
-    ensures answer { λ r. ⌜ now r ≡ literals-of (now (rule .entry)) (clause-at (now (rule .entry)) cursor) ⌝ }
+    ensures answer { λ r. ⌜ now r ≡ clause-bytes (now (rule .entry)) (clause-file (now (rule .entry)) (placing cursor)) ⌝ }
     ensures unchanged { λ _. ⌜ now (rule .exit) ≡ now (rule .entry) ⌝ }
 {
     match clause_at(rule, cursor) {
@@ -132,7 +121,7 @@ pub fn literals_at(rule: &[u8], cursor: Cursor) -> &[u8]
             start,
             length,
             next: _,
-        } => literals(rule, start, length),
+        } => part(rule, start, length),
         Step::Done => &rule[..0],
         Step::Refused(_) => &rule[..0],
     }

@@ -9,7 +9,7 @@ use crate::cursor::clause_at;
 use crate::cursor::literals_at;
 use crate::cursor::start;
 ghost use mathlib.Core.Path.{_≡_};
-ghost use Rattle.clause_reader.specs.Cursor.{start, clause-at, advance, nth, literals-of};
+ghost use Rattle.clause_reader.specs.Cursor.{start-file, clause-file, advance-file, nth-file, clause-bytes, placing, stepping};
 
 pub struct ClauseReader<'a> {
     pub rule: &'a [u8],
@@ -18,7 +18,7 @@ pub struct ClauseReader<'a> {
 
 // A reader at clause 0.
 pub fn new<'a>(rule: &'a [u8]) -> ClauseReader<'a>
-    ensures answer { λ r. ⌜ (r .rule ≡ rule .entry) × (r .cursor ≡ start (now (rule .entry))) ⌝ }
+    ensures answer { λ r. ⌜ (r .rule ≡ rule .entry) × (placing (r .cursor) ≡ start-file (now (rule .entry))) ⌝ }
     ensures unchanged { λ _. ⌜ now (rule .exit) ≡ now (rule .entry) ⌝ }
 {
     ClauseReader {
@@ -29,7 +29,7 @@ pub fn new<'a>(rule: &'a [u8]) -> ClauseReader<'a>
 
 // The clause at the reader's place.
 pub fn next<'a>(r: ClauseReader<'a>) -> Step
-    ensures answer { λ s. ⌜ s ≡ clause-at (now (r .entry .rule)) (r .entry .cursor) ⌝ }
+    ensures answer { λ s. ⌜ stepping s ≡ clause-file (now (r .entry .rule)) (placing (r .entry .cursor)) ⌝ }
     ensures unchanged { λ _. ⌜ now (r .exit .rule) ≡ now (r .entry .rule) ⌝ }
 {
     clause_at(r.rule, r.cursor)
@@ -37,7 +37,7 @@ pub fn next<'a>(r: ClauseReader<'a>) -> Step
 
 // The reader `count` clauses on. It does not move where none is left.
 pub fn advance<'a>(r: ClauseReader<'a>, count: usize) -> ClauseReader<'a>
-    ensures answer { λ q. ⌜ (q .rule ≡ r .entry .rule) × (q .cursor ≡ advance (now (r .entry .rule)) count (r .entry .cursor)) ⌝ }
+    ensures answer { λ q. ⌜ (q .rule ≡ r .entry .rule) × (placing (q .cursor) ≡ advance-file (now (r .entry .rule)) count (placing (r .entry .cursor))) ⌝ }
     ensures unchanged { λ _. ⌜ now (r .exit .rule) ≡ now (r .entry .rule) ⌝ }
 {
     ClauseReader {
@@ -48,7 +48,7 @@ pub fn advance<'a>(r: ClauseReader<'a>, count: usize) -> ClauseReader<'a>
 
 // The literals of the clause at the reader's place: a part of the file, empty where no clause is left.
 pub fn clause<'a>(r: ClauseReader<'a>) -> &'a [u8]
-    ensures answer { λ s. ⌜ now s ≡ literals-of (now (r .entry .rule)) (clause-at (now (r .entry .rule)) (r .entry .cursor)) ⌝ }
+    ensures answer { λ s. ⌜ now s ≡ clause-bytes (now (r .entry .rule)) (clause-file (now (r .entry .rule)) (placing (r .entry .cursor))) ⌝ }
     ensures unchanged { λ _. ⌜ now (r .exit .rule) ≡ now (r .entry .rule) ⌝ }
 {
     literals_at(r.rule, r.cursor)
@@ -56,7 +56,7 @@ pub fn clause<'a>(r: ClauseReader<'a>) -> &'a [u8]
 
 // Clause j of a file: for callers that hold no reader.
 pub fn nth_clause(rule: &[u8], j: usize) -> Step
-    ensures answer { λ r. ⌜ r ≡ nth (now (rule .entry)) j ⌝ }
+    ensures answer { λ r. ⌜ stepping r ≡ nth-file (now (rule .entry)) j ⌝ }
     ensures unchanged { λ _. ⌜ now (rule .exit) ≡ now (rule .entry) ⌝ }
 {
     next(advance(new(rule), j))

@@ -1,6 +1,4 @@
 -- Laws of the derivation file's definitions and of the check.
-pub mod StepLaws
-pub mod PlaceLaws
 pub mod LineLaws
 pub mod ParentLaws
 pub mod JudgeLaws

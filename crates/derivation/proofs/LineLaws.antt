@@ -1,28 +1,30 @@
--- One line of a derivation, and the walk over the lines, one line at a time, as a loop takes it. Assumes nothing.
-use mathlib.Core.Path.{_≡_, refl, sym, ap, _∙_}
+-- One line of a derivation, by its kind, and its literals as a part of the file; then the lines of a file: how many
+-- there are, where each stands, and what a walk without fault, and a well-formed derivation, says of each. Elements and
+-- walks in general, and one at a time, are rule_file's WalkLaws. Assumes nothing.
+use mathlib.Core.Path.{_≡_, refl, ap, _∙_}
 use mathlib.Core.Bool.{Bool, true, false, cond, _&&_, _||_}
-use mathlib.Core.List.{List, [], _∷_}
-use mathlib.Core.Option.{none, some, Option·some-ne-none}
-use Prim.Native.Nat.{ℕ, suc, _+_, _-_, _≤_, _<_}
-use native.Mathlib.Nat.{zero-add, le-of-lt}
-use native.Mathlib.Numerals.{add-one}
+use mathlib.Core.List.{List}
+use mathlib.Core.Option.{none}
+use Prim.Native.Nat.{ℕ, _+_, _≤_, _<_}
 use native.Mathlib.Omega.{arith}
 use lib.ListN.{length}
 use lib.Dec.{leb, eqb}
 use borrow.Author.Tests.{eq-eqb, ne-eqb, leb-true}
-use Rattle.rule_file.specs.Words.{word, word-count}
-use Rattle.rule_file.specs.Answer.{later}
-use Rattle.rule_file.proofs.WalkLaws.{later-none}
+use Rattle.formula.specs.Formula.{some-of, out-of-range, repeats}
+use Rattle.formula.proofs.SomeLaws.{or-false, none-second}
+use Rattle.rule_file.specs.Words.{word, word-count, all-words, part}
+use Rattle.rule_file.proofs.WalkLaws.{elements-length, element-is, none-at, walked-at}
+use Rattle.rule_file.proofs.WordsLaws.{part-words}
 use Rattle.resolution.specs.Resolution.{Line, blocking, resolvent, derived, line-at}
 use Rattle.resolution.proofs.Membership.{and-iff}
-use Rattle.derivation.specs.WellFormed.{Walked}
+use Rattle.derivation.specs.DerivationFile.{trailer-start, line-count, kind, size, value-start, clause-of, line-of, after-line, lines}
+use Rattle.derivation.specs.Check.{line-fits, walk-lines, line-fails}
+use Rattle.derivation.specs.WellFormed.{WellFormed}
+use Rattle.derivation.specs.Readable.{Walked}
 use Rattle.derivation.specs.Parent.{line-start}
-use Rattle.derivation.specs.DerivationFile.{trailer-start, line-count, kind, size, value-start, clause-of, line-of, after-line, lines-from}
-use Rattle.derivation.specs.Check.{line-fits, walk-lines}
-use Rattle.derivation.proofs.PlaceLaws.{from, from-here, from-later}
-use Rattle.derivation.proofs.StepLaws.{kept, element, elements}
 
--- by the kind
+-- One line
+
 module _ (d : List ℕ) (i : ℕ) where
   pub after-blocking : kind d i ≡ 1 → after-line d i ≡ value-start d i + 2
   unfolding after-line
@@ -57,97 +59,50 @@ module _ (d : List ℕ) (i : ℕ) where
       go true = omega arith
       go false = omega arith
 
+  -- its literals, as the words of the part that holds them
+  pub line-words : value-start d i + 2 ≤ word-count d → all-words (part d (i + 2) (size d i)) ≡ clause-of d i .literals
+  line-words h = part-words d (i + 2) (size d i) (omega arith)
+
 pub line-ends : (d : List ℕ) (n end i : ℕ) → line-fits d n end i ≡ true → after-line d i ≤ end
 unfolding line-fits
 line-ends d n end i e =
     leb-true _ _ (and-iff (leb (i + 2) end && (eqb (kind d i) 1 || eqb (kind d i) 2) && leb (size d i) n) (leb (after-line d i) end) .0 e .1)
 
--- the walk, where a line is left
-module _ (d : List ℕ) (n end left i : ℕ) where
-  step-fault : line-fits d n end i ≡ false → walk-lines d n end (suc left) i ≡ some 0
-  unfolding walk-lines
-  step-fault f = rw (f, walk-lines)
+-- The lines of a file
 
-  step-on : line-fits d n end i ≡ true → walk-lines d n end (suc left) i ≡ later (walk-lines d n end left (after-line d i))
-  unfolding walk-lines
-  step-on f = rw (f, walk-lines)
-
-  -- without fault: the line at hand fits, and the walk from the next one is without fault
-  walked-fits : walk-lines d n end (suc left) i ≡ none → line-fits d n end i ≡ true
-  walked-fits e = go (line-fits d n end i) refl
-    where
-      go : (t : Bool) → line-fits d n end i ≡ t → line-fits d n end i ≡ true
-      go true f = f
-      go false f = absurd (Option·some-ne-none 0 (sym (step-fault f) ∙ e))
-
-  walked-rest : walk-lines d n end (suc left) i ≡ none → walk-lines d n end left (after-line d i) ≡ none
-  walked-rest e = later-none _ (sym (step-on (walked-fits e)) ∙ e)
-
--- as a loop takes it: `line` lines of `count` are passed, and the next one stands at word i
-module _ (d : List ℕ) (i count line : ℕ) (h : line < count) where
-  left-is : count - line ≡ suc (count - (line + 1))
-  left-is = omega arith
-
-  pub lines-step : lines-from d (count - line) i ≡ line-of d i ∷ lines-from d (count - (line + 1)) (after-line d i)
-  unfolding lines-from
-  lines-step = ap (λ k. lines-from d k i) left-is
-
-  module _ (n end : ℕ) where
-    pub walk-fault : line-fits d n end i ≡ false → from line (walk-lines d n end (count - line) i) ≡ some line
-    walk-fault f = rw (left-is, step-fault d n end _ i f) (from-here line)
-
-    pub walk-on : line-fits d n end i ≡ true
-        → from (line + 1) (walk-lines d n end (count - (line + 1)) (after-line d i)) ≡ from line (walk-lines d n end (count - line) i)
-    walk-on f = rw (left-is, step-on d n end _ i f) (sym (from-later line _))
-
--- no line is left
-module _ (d : List ℕ) (i count line : ℕ) (h : count ≤ line) where
-  none-left : count - line ≡ 0
-  none-left = omega arith
-
-  pub lines-over : lines-from d (count - line) i ≡ []
-  unfolding lines-from
-  lines-over = ap (λ k. lines-from d k i) none-left
-
-  module _ (n end : ℕ) where
-    walk-over : walk-lines d n end (count - line) i ≡ cond (eqb i end) none (some 0)
-    unfolding walk-lines
-    walk-over = ap (λ k. walk-lines d n end k i) none-left
-
-    pub walk-ended : i ≡ end → from line (walk-lines d n end (count - line) i) ≡ none
-    unfolding from
-    walk-ended e = rw (walk-over, eq-eqb _ _ e)
-
-    pub walk-missed : (i ≡ end → ⊥) → from line (walk-lines d n end (count - line) i) ≡ some line
-    walk-missed e = rw (walk-over, ne-eqb _ _ e) (from-here line)
-
--- where the lines stand
 module _ (d : List ℕ) where
-  pub line-start-zero : 0 ≡ line-start d 0
-  unfolding line-start
-  line-start-zero = refl
+  pub lines-length : length (lines d) ≡ line-count d
+  lines-length = elements-length (after-line d) (line-of d) (line-count d) 0
 
-  pub line-start-suc : (line : ℕ) → after-line d (line-start d line) ≡ line-start d (line + 1)
-  unfolding line-start
-  line-start-suc line = rw add-one
+  pub line-is : (k : ℕ) → k < line-count d → line-at (lines d) k ≡ line-of d (line-start d k)
+  line-is k h = element-is (after-line d) (line-of d) _ (line-count d) 0 k h
 
-  pub lines-length : (left i : ℕ) → length (lines-from d left i) ≡ left
-  unfolding lines-from line-start
-  lines-length = elements (after-line d) (line-start d) (λ j. refl) (line-of d) (lines-from d) (λ left i. refl) (λ i. refl)
-
-  pub line-is : (count line : ℕ) → line < count → line-at (lines-from d count 0) line ≡ line-of d (line-start d line)
-  unfolding lines-from line-start
-  line-is count line h =
-      element (after-line d) (line-start d) (λ j. refl) (line-of d) (lines-from d) (λ left i. refl) _ count line 0 h
-      ∙ ap (λ j. line-of d (line-start d j)) (zero-add line)
+  pub derived-at : (k : ℕ) → k < line-count d → derived (line-at (lines d) k) ≡ clause-of d (line-start d k)
+  derived-at k h = ap derived (line-is k h) ∙ derived-is d (line-start d k)
 
   -- what a walk without fault says of each line
-  pub line-within : (n end count : ℕ) → walk-lines d n end count 0 ≡ none → (line : ℕ) → line < count → after-line d (line-start d line) ≤ end
-  unfolding line-start
-  line-within n end count walked line h =
-      let w = kept (after-line d) (line-start d) (λ j. refl) (λ left i. walk-lines d n end left i ≡ none) (walked-rest d n end) count line (le-of-lt h) walked in
-      line-ends d n end _ (walked-fits d n end _ _ (rw (left-is d 0 count line h) at w))
+  pub line-within : (n end count : ℕ) → walk-lines d n end count 0 ≡ none → (k : ℕ) → k < count → after-line d (line-start d k) ≤ end
+  line-within n end count w k h =
+      line-ends d n end (line-start d k) (walked-at (after-line d) (line-fits d n end) end count 0 w k h)
 
-  pub line-value-within : Walked d → (line : ℕ) → line < line-count d → value-start d (line-start d line) + 2 ≤ word-count d
-  line-value-within w line h =
-      omega (arith, line-within (w .variables) (trailer-start d) (line-count d) (w .walked) line h, value-before d (line-start d line))
+  pub line-value-within : Walked d → (k : ℕ) → k < line-count d → value-start d (line-start d k) + 2 ≤ word-count d
+  line-value-within w k h =
+      omega (arith, line-within (w .variables) (trailer-start d) (line-count d) (w .walked) k h, value-before d (line-start d k))
+
+-- what 16 leaves true of each line's literals, and of all
+module _ (n : ℕ) (d : List ℕ) (w : WellFormed n d) where
+  pub lines-no-repeats : some-of (λ l. repeats (derived l .literals)) (lines d) ≡ false
+  unfolding line-fails
+  lines-no-repeats = none-second (λ l. out-of-range n (derived l .literals)) (λ l. repeats (derived l .literals)) (lines d) (w .no-fault)
+
+  module _ (k : ℕ) (h : k < line-count d) where
+    no-fault-at : line-fails n (line-of d (line-start d k)) ≡ false
+    no-fault-at = none-at (after-line d) (line-of d) (line-fails n) (line-count d) 0 k h (w .no-fault)
+
+    pub line-in-range : out-of-range n (clause-of d (line-start d k) .literals) ≡ false
+    unfolding line-fails
+    line-in-range = or-false (out-of-range n (clause-of d (line-start d k) .literals)) _ (rw (derived-is d (line-start d k)) at no-fault-at) .0
+
+    pub line-no-repeats : repeats (clause-of d (line-start d k) .literals) ≡ false
+    unfolding line-fails
+    line-no-repeats = or-false (out-of-range n (clause-of d (line-start d k) .literals)) _ (rw (derived-is d (line-start d k)) at no-fault-at) .1

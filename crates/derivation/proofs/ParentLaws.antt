@@ -1,92 +1,24 @@
--- What a reference names: where its clause or line stands, and its literals as a part of the file. Assumes nothing.
-use mathlib.Core.Path.{_≡_, refl, sym, ap, ap₂, _∙_}
+-- What a reference names, by its parity: where its clause or line stands, its literals as a part of the file that holds
+-- them, and its value; then resolution's lookup by these. Assumes nothing.
+use mathlib.Core.Path.{_≡_, refl, sym, ap, _∙_}
 use mathlib.Core.Bool.{Bool, true, false, cond}
-use mathlib.Core.List.{List, [], _∷_}
-use mathlib.Core.Option.{none}
-use Prim.Native.Nat.{ℕ, zero, suc, _+_, _-_, _*_, _/_, _%_, _≤_, _<_}
-use native.Mathlib.Nat.{zero-add, le-of-lt, le-trans}
-use native.Mathlib.Numerals.{add-one}
-use native.Mathlib.Omega.{arith}
-use lib.ListN.{length, getD, take, drop, length-drop}
-use lib.Seq.{length-take-le, getD-take, getD-drop}
+use mathlib.Core.List.{List, []}
+use Prim.Native.Nat.{ℕ, _+_, _/_, _%_, _≤_, _<_}
+use native.Mathlib.Nat.{le-trans}
+use native.Mathlib.Decide.{ℕ-discrete}
+use lib.ListN.{getD}
 use lib.Dec.{ltb, eqb}
 use borrow.Author.Tests.{eq-eqb, ne-eqb, ltb-true, lt-ltb}
-use Rattle.rule_file.specs.Words.{word, word-count, words}
-use Rattle.rule_file.specs.RuleFile.{clause-count, variable-count, prefix-start, after-clause, clauses-from, clauses, clause-start}
-use Rattle.rule_file.specs.Reader.{walk}
+use Rattle.rule_file.specs.Words.{word, all-words, part}
+use Rattle.rule_file.specs.RuleFile.{clause-count, clause-start, clauses}
 use Rattle.rule_file.specs.Accepted.{Accepted}
-use Rattle.rule_file.proofs.WalkLaws.{walked-fits, walked-rest}
-use Rattle.resolution.specs.Resolution.{derived, clause-at, line-at, some-if, lookup}
-use Rattle.literals.specs.Literals.{literals-of}
-use Rattle.derivation.specs.DerivationFile.{line-count, size, value-start, value-at, clause-of, lines}
-use Rattle.derivation.specs.Parent.{line-start, is-named, referent-literals, referent-value, referent}
-use Rattle.derivation.proofs.LineLaws.{line-is, derived-is}
-use Rattle.derivation.proofs.StepLaws.{kept, element, elements}
-
--- the k words from word i on, as a part of the file
-module _ (b : List ℕ) (i k : ℕ) where
-  abbrev part : List ℕ
-  part = take (4 * (i + k) - 4 * i) (drop (4 * i) b)
-
-  byte-of-part : (x y : ℕ) → x < 4 * k → 4 * i + x ≡ y → getD part x 0 ≡ getD b y 0
-  byte-of-part x y h e =
-      getD-take (4 * (i + k) - 4 * i) (drop (4 * i) b) x 0 (omega arith) ∙ getD-drop (4 * i) b x 0 ∙ ap (λ z. getD b z 0) e
-
-  word-of-part : (j : ℕ) → j < k → word part j ≡ word b (i + j)
-  unfolding word
-  word-of-part j h =
-      rw (
-        byte-of-part (4 * j) (4 * (i + j)) (omega arith) (omega arith),
-        byte-of-part (4 * j + 1) (4 * (i + j) + 1) (omega arith) (omega arith),
-        byte-of-part (4 * j + 2) (4 * (i + j) + 2) (omega arith) (omega arith),
-        byte-of-part (4 * j + 3) (4 * (i + j) + 3) (omega arith) (omega arith),
-      )
-
-  words-of-part : (j left : ℕ) → j + left ≤ k → words part j left ≡ words b (i + j) left
-  unfolding words
-  words-of-part j zero h = refl
-  words-of-part j (suc left) h =
-      let e : i + (j + 1) ≡ i + j + 1 = omega arith in
-      ap₂ _∷_ (word-of-part j (omega arith)) (words-of-part (j + 1) left (omega arith) ∙ ap (λ x. words b x left) e)
-
-  pub part-literals : i + k ≤ word-count b → literals-of part ≡ words b i k
-  part-literals h =
-      let within : 4 * (i + k) - 4 * i ≤ length (drop (4 * i) b) = rw length-drop (omega arith) in
-      let size : word-count part ≡ k = rw (length-take-le _ _ within) (omega arith) in
-      let e : i + 0 ≡ i = omega arith in
-      rw size (words-of-part 0 k (omega arith) ∙ ap (λ x. words b x k) e)
-
--- where the clauses stand
-module _ (b : List ℕ) where
-  pub clause-start-zero : 0 ≡ clause-start b 0
-  unfolding clause-start
-  clause-start-zero = refl
-
-  pub clause-start-suc : (j : ℕ) → after-clause b (clause-start b j) ≡ clause-start b (j + 1)
-  unfolding clause-start
-  clause-start-suc j = ap (clause-start b) (sym (add-one j))
-
-  pub clauses-length : length (clauses b) ≡ clause-count b
-  unfolding clauses-from clause-start
-  clauses-length =
-      elements (after-clause b) (clause-start b) (λ j. refl) (λ i. words b (i + 1) (word b i)) (clauses-from b) (λ left i. refl) (λ i. refl) (clause-count b) 0
-
-  pub clause-is : (j : ℕ) → j < clause-count b → getD (clauses b) j [] ≡ words b (clause-start b j + 1) (word b (clause-start b j))
-  unfolding clauses-from clause-start
-  clause-is j h =
-      element (after-clause b) (clause-start b) (λ j. refl) (λ i. words b (i + 1) (word b i)) (clauses-from b) (λ left i. refl) [] (clause-count b) j 0 h
-      ∙ ap (λ j. words b (clause-start b j + 1) (word b (clause-start b j))) (zero-add j)
-
-  pub clause-within : Accepted b → (j : ℕ) → j < clause-count b → after-clause b (clause-start b j) ≤ word-count b
-  unfolding clause-start
-  clause-within a j h =
-      let n : ℕ = variable-count b in
-      let end : ℕ = prefix-start b in
-      let rest : (left i : ℕ) → walk b n end (suc left) i ≡ none → walk b n end left (after-clause b i) ≡ none =
-      λ left i e. let k : suc left - 1 ≡ left = omega arith in rw k at (walked-rest b n end (suc left) i (omega arith) e) in
-      let w = kept (after-clause b) (clause-start b) (λ j. refl) (λ left i. walk b n end left i ≡ none) rest (clause-count b) j (le-of-lt h) (a .walked) in
-      let f = walked-fits b n end (clause-count b - j) (clause-start b j) (omega arith) w in
-      omega (arith, f .ends, a .prefix-ends)
+use Rattle.rule_file.proofs.WordsLaws.{part-words}
+use Rattle.rule_file.proofs.ClauseLaws.{clauses-length, clause-is, clause-within}
+use Rattle.resolution.specs.Resolution.{derived, original-clause, line-at, some-if, lookup}
+use Rattle.derivation.specs.DerivationFile.{line-count, size, value-start, value-at, lines}
+use Rattle.derivation.specs.Readable.{Walked}
+use Rattle.derivation.specs.Parent.{line-start, is-named, referent-literals, referent-part, referent-value, referent}
+use Rattle.derivation.proofs.LineLaws.{derived-at, line-words, line-value-within}
 
 -- a reference that is even names a clause of the rule file
 module _ (r : ℕ) (even : r % 2 ≡ 0) where
@@ -94,10 +26,14 @@ module _ (r : ℕ) (even : r % 2 ≡ 0) where
   unfolding is-named
   named-clause m k e = ltb-true _ _ (rw (eq-eqb _ _ even) at e)
 
-  pub clause-literals : (b d : List ℕ) → r / 2 < clause-count b
-      → words b (clause-start b (r / 2) + 1) (word b (clause-start b (r / 2))) ≡ referent-literals b d r
+  pub clause-part : (b d : List ℕ) → part b (clause-start b (r / 2) + 1) (word b (clause-start b (r / 2))) ≡ referent-part b d r
+  unfolding referent-part
+  clause-part b d = rw (eq-eqb _ _ even)
+
+  clause-words : (b d : List ℕ) → Accepted b → r / 2 < clause-count b → all-words (referent-part b d r) ≡ referent-literals b d r
   unfolding referent-literals
-  clause-literals b d h = rw (eq-eqb _ _ even) (sym (clause-is b (r / 2) h))
+  clause-words b d a h =
+      rw (← (clause-part b d), eq-eqb _ _ even) (part-words b _ _ (clause-within b a (r / 2) h) ∙ sym (clause-is b (r / 2) h))
 
   pub clause-value : (d : List ℕ) → 0 ≡ referent-value d r
   unfolding referent-value
@@ -109,17 +45,28 @@ module _ (r : ℕ) (odd : r % 2 ≡ 0 → ⊥) where
   unfolding is-named
   named-line m k e = ltb-true _ _ (rw (ne-eqb _ _ odd) at e)
 
-  module _ (d : List ℕ) (h : r / 2 < line-count d) where
-    line-clause : derived (line-at (lines d) (r / 2)) ≡ clause-of d (line-start d (r / 2))
-    line-clause = ap derived (line-is d (line-count d) (r / 2) h) ∙ derived-is d (line-start d (r / 2))
+  pub line-part : (b d : List ℕ) → part d (line-start d (r / 2) + 2) (size d (line-start d (r / 2))) ≡ referent-part b d r
+  unfolding referent-part
+  line-part b d = rw (ne-eqb _ _ odd)
 
-    pub line-literals : (b : List ℕ) → words d (line-start d (r / 2) + 2) (size d (line-start d (r / 2))) ≡ referent-literals b d r
-    unfolding referent-literals
-    line-literals b = rw (ne-eqb _ _ odd) (sym (ap (λ c. c .literals) line-clause))
+  named-words : (b d : List ℕ) → Walked d → r / 2 < line-count d → all-words (referent-part b d r) ≡ referent-literals b d r
+  unfolding referent-literals
+  named-words b d w h =
+      rw (← (line-part b d), ne-eqb _ _ odd)
+      (line-words d (line-start d (r / 2)) (line-value-within d w (r / 2) h) ∙ sym (ap (λ c. c .literals) (derived-at d (r / 2) h)))
 
-    pub line-value : value-at d (value-start d (line-start d (r / 2))) ≡ referent-value d r
-    unfolding referent-value
-    line-value = rw (ne-eqb _ _ odd) (sym (ap (λ c. c .value) line-clause))
+  pub line-value : (d : List ℕ) → r / 2 < line-count d → value-at d (value-start d (line-start d (r / 2))) ≡ referent-value d r
+  unfolding referent-value
+  line-value d h = rw (ne-eqb _ _ odd) (sym (ap (λ c. c .value) (derived-at d (r / 2) h)))
+
+-- the words of the part are the literals
+pub referent-words :
+    (b d : List ℕ) → Accepted b → Walked d → (r : ℕ) → is-named (clause-count b) (line-count d) r ≡ true → all-words (referent-part b d r) ≡ referent-literals b d r
+referent-words b d a w r e = go (ℕ-discrete (r % 2) 0)
+  where
+    go : Dec (r % 2 ≡ 0) → all-words (referent-part b d r) ≡ referent-literals b d r
+    go (yes even) = clause-words r even b d a (named-clause r even _ _ e)
+    go (no odd) = named-words r odd b d w (named-line r odd _ _ e)
 
 pub named-more : (m k l r : ℕ) → k ≤ l → is-named m k r ≡ true → is-named m l r ≡ true
 unfolding is-named
@@ -134,7 +81,7 @@ unfolding lookup is-named referent-literals referent-value
 lookup-is b d k r = rw (clauses-length b) (go (eqb (r % 2) 0))
   where
     go : (t : Bool) →
-        cond t (some-if (ltb (r / 2) (clause-count b)) (clause-at (clauses b) (r / 2))) (some-if (ltb (r / 2) k) (derived (line-at (lines d) (r / 2))))
+        cond t (some-if (ltb (r / 2) (clause-count b)) (original-clause (clauses b) (r / 2))) (some-if (ltb (r / 2) k) (derived (line-at (lines d) (r / 2))))
         ≡ some-if (cond t (ltb (r / 2) (clause-count b)) (ltb (r / 2) k))
         (record {
           literals = cond t (getD (clauses b) (r / 2) []) (derived (line-at (lines d) (r / 2)) .literals);

@@ -1,13 +1,15 @@
 -- What stands in a derivation file: its trailer, and its lines by a walk from word 0. Assumes nothing of the file.
 -- Words are those of a rule file: 32 bits, least byte first.
 use mathlib.Core.Bool.{cond}
-use mathlib.Core.List.{List, [], _∷_}
-use Prim.Native.Nat.{ℕ, zero, suc, _+_, _-_, _*_, _^_}
+use mathlib.Core.List.{List}
+use Prim.Native.Nat.{ℕ, _+_, _-_, _*_, _^_}
 use lib.Dec.{eqb}
+use Rattle.rule_file.specs.Walk.{elements}
 use Rattle.rule_file.specs.Words.{word, word-count, words}
 use Rattle.resolution.specs.Resolution.{Annotated, Line, blocking, resolvent}
 
--- the trailer's three words, the file's last: the line count, the closing reference and the count of all words
+-- the trailer's three words, the file's last: the line count, the closing reference, which names the clause that the
+-- derivation closes with, and the count of all words
 abbrev pub trailer-start : List ℕ → ℕ
 trailer-start d = word-count d - 3
 
@@ -17,10 +19,8 @@ line-count d = word d (trailer-start d)
 abbrev pub closing-reference : List ℕ → ℕ
 closing-reference d = word d (word-count d - 2)
 
-abbrev pub stated-count : List ℕ → ℕ
-stated-count d = word d (word-count d - 1)
-
--- the line at word i: its kind, the number k of its literals, the literals, and then its value
+-- the line at word i: its kind (1 is rule R.2, 2 is rule R.3), the number k of its literals, the literals, and then its
+-- value
 abbrev pub kind : List ℕ → ℕ → ℕ
 kind d i = word d i
 
@@ -37,7 +37,8 @@ value-at d i = word d i + 2 ^ 32 * word d (i + 1)
 abbrev pub clause-of : List ℕ → ℕ → Annotated
 clause-of d i = record { literals = words d (i + 2) (size d i); value = value-at d (value-start d i) }
 
--- kind 1 ends with the value; kind 2 adds the variable v, the true-side parent and the false-side parent. Any other kind is refused by 15
+-- kind 1 ends with the value; kind 2 adds the variable v, the true-side parent and the false-side parent. Any other
+-- kind is refused by 15
 unfoldable pub line-of : List ℕ → ℕ → Line
 line-of d i =
     cond (eqb (kind d i) 1)
@@ -49,9 +50,8 @@ unfoldable pub after-line : List ℕ → ℕ → ℕ
 after-line d i = value-start d i + cond (eqb (kind d i) 1) 2 5
 
 -- the lines from word i on, as many as are left
-unfoldable pub lines-from : List ℕ → ℕ → ℕ → List Line
-lines-from d zero i = []
-lines-from d (suc left) i = line-of d i ∷ lines-from d left (after-line d i)
+abbrev pub lines-from : List ℕ → ℕ → ℕ → List Line
+lines-from d = elements (after-line d) (line-of d)
 
 -- the derivation
 abbrev pub lines : List ℕ → List Line

@@ -3,5 +3,5 @@ pub mod DerivationFile
 pub mod Check
 pub mod WellFormed
 pub mod Parent
-pub mod Judging
+pub mod Readable
 pub mod Derives

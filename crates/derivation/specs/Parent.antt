@@ -1,17 +1,19 @@
--- What a reference names, and where it stands: 2j is clause j of the rule file, 2j + 1 is line j of the derivation. Assumes nothing.
+-- What a reference names, and where it stands: 2j is clause j of the rule file, 2j + 1 is line j of the derivation.
+-- What the code alone needs; assumes nothing.
 use mathlib.Core.Bool.{Bool, cond}
 use mathlib.Core.List.{List, []}
-use Prim.Native.Nat.{ℕ, zero, suc, _/_, _%_}
+use Prim.Native.Nat.{ℕ, _+_, _/_, _%_}
 use lib.ListN.{getD}
 use lib.Dec.{ltb, eqb}
-use Rattle.rule_file.specs.RuleFile.{clauses}
+use Rattle.rule_file.specs.Walk.{start}
+use Rattle.rule_file.specs.Words.{word, part}
+use Rattle.rule_file.specs.RuleFile.{clauses, clause-start}
 use Rattle.resolution.specs.Resolution.{Annotated, derived, line-at}
-use Rattle.derivation.specs.DerivationFile.{after-line, lines}
+use Rattle.derivation.specs.DerivationFile.{size, after-line, lines}
 
--- the word where line j of the derivation begins
-unfoldable pub line-start : List ℕ → ℕ → ℕ
-line-start d zero = 0
-line-start d (suc j) = after-line d (line-start d j)
+-- the word where line j of the derivation begins, by a walk from word 0
+abbrev pub line-start : List ℕ → ℕ → ℕ
+line-start d = start (after-line d) 0
 
 -- whether a reference names one of m clauses or one of the first k lines
 unfoldable pub is-named : ℕ → ℕ → ℕ → Bool
@@ -20,6 +22,13 @@ is-named m k r = cond (eqb (r % 2) 0) (ltb (r / 2) m) (ltb (r / 2) k)
 -- the clause that it names: its literals, and its value, which is 0 for a clause of the rule file
 unfoldable pub referent-literals : List ℕ → List ℕ → ℕ → List ℕ
 referent-literals b d r = cond (eqb (r % 2) 0) (getD (clauses b) (r / 2) []) (derived (line-at (lines d) (r / 2)) .literals)
+
+-- its literals as a part of the file that holds them, by the reference's parity
+unfoldable pub referent-part : List ℕ → List ℕ → ℕ → List ℕ
+referent-part b d r =
+    cond (eqb (r % 2) 0)
+    (part b (clause-start b (r / 2) + 1) (word b (clause-start b (r / 2))))
+    (part d (line-start d (r / 2) + 2) (size d (line-start d (r / 2))))
 
 unfoldable pub referent-value : List ℕ → ℕ → ℕ
 referent-value d r = cond (eqb (r % 2) 0) 0 (derived (line-at (lines d) (r / 2)) .value)

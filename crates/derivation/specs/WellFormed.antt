@@ -3,28 +3,22 @@ use mathlib.Core.Path.{_≡_}
 use mathlib.Core.Bool.{false}
 use mathlib.Core.List.{List}
 use mathlib.Core.Option.{none}
-use Prim.Native.Nat.{ℕ, _%_, _≤_}
-use lib.ListN.{length}
+use Prim.Native.Nat.{ℕ, _≤_}
 use Rattle.formula.specs.Formula.{some-of}
-use Rattle.rule_file.specs.Words.{word-count}
-use Rattle.derivation.specs.DerivationFile.{trailer-start, line-count, stated-count, lines}
-use Rattle.derivation.specs.Check.{walk-lines, line-fault}
+use Rattle.rule_file.specs.Limits.{derivation-trailer, max-lines}
+use Rattle.rule_file.specs.Words.{word-count, stated-count}
+use Rattle.rule_file.specs.Accepted.{Length}
+use Rattle.derivation.specs.DerivationFile.{trailer-start, line-count, lines}
+use Rattle.derivation.specs.Check.{walk-lines, line-fails}
 
 -- what 13 and 14 leave: the length and the counts are right
-pub record Counted (d : List ℕ) : Type 0 where
-  pub whole-words : length d % 4 ≡ 0
-  pub least : 12 ≤ length d
-  pub most : length d ≤ 65536
+pub record RightCounts (d : List ℕ) : Type 0 where
+  pub right-length : Length derivation-trailer d
   pub right-count : stated-count d ≡ word-count d
-  pub few-lines : line-count d ≤ 1024
+  pub few-lines : line-count d ≤ max-lines
 
 -- what 13 to 16 leave, over a rule file of n variables
 pub record WellFormed (n : ℕ) (d : List ℕ) : Type 0 where
-  pub counted : Counted d
+  pub right-counts : RightCounts d
   pub walked : walk-lines d n (trailer-start d) (line-count d) 0 ≡ none
-  pub no-fault : some-of (line-fault n) (lines d) ≡ false
-
--- check 15 has passed, whatever the number of variables
-pub record Walked (d : List ℕ) : Type 0 where
-  pub variables : ℕ
-  pub walked : walk-lines d variables (trailer-start d) (line-count d) 0 ≡ none
+  pub no-fault : some-of (line-fails n) (lines d) ≡ false

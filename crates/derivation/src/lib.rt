@@ -10,16 +10,21 @@ use crate::lines::walk_fault;
 use crate::parent::is_named;
 use crate::parent::parent;
 use crate::parent::parent_value;
+use rule_file::Found;
 use rule_file::Header;
 use rule_file::Reading;
+use rule_file::Refusal;
+use rule_file::limits::DERIVATION_TRAILER;
+use rule_file::limits::MAX_LINES;
 use rule_file::read;
+use rule_file::words::has_wrong_length;
 use rule_file::words::word;
 ghost use mathlib.Core.Path.{_≡_};
 ghost use Rattle.rule_file.specs.Accepted.{Accepted, header as header-of};
 ghost use Rattle.derivation.specs.DerivationFile.{line-count};
 ghost use Rattle.derivation.specs.Check.{checking, check-file, check-from-13, check-from-15, check-from-17, check-from-21};
-ghost use Rattle.derivation.specs.WellFormed.{Counted};
-ghost use Rattle.derivation.specs.Judging.{Readable};
+ghost use Rattle.derivation.specs.WellFormed.{RightCounts};
+ghost use Rattle.derivation.specs.Readable.{Readable};
 
 // The value of the empty clause that the derivation closes with, out of the whole.
 pub struct Closing {
@@ -27,16 +32,19 @@ pub struct Closing {
     pub whole: u64,
 }
 
-// A refusal's number, alone or with the line, or the closing value and the whole.
+// The check's answer.
 pub enum Checking {
-    Refused(u32),
-    RefusedAt(u32, usize),
+    // The rule file's refusal, or the derivation's; 15 to 20 with the line.
+    Refused(Refusal),
+    // Each line follows and the derivation closes: the closing value and the whole.
     Accepted(Closing),
 }
 
-// A refusal's number and the first line that it applies to, where there is one.
+// What judging lines finds first.
 pub enum Fault {
+    // Each line follows.
     Nothing,
+    // The number of the refusal, and the line.
     At(u32, usize),
 }
 
@@ -49,7 +57,7 @@ pub fn check<'a>(rule: &'a [u8], derivation: &'a [u8]) -> Checking
     ensures derivation_unchanged { λ _. ⌜ now (derivation .exit) ≡ now (derivation .entry) ⌝ }
 {
     match read(rule) {
-        Reading::Refused(number) => Checking::Refused(number),
+        Reading::Refused(refusal) => Checking::Refused(refusal),
         Reading::Accepted(header) => check_counts(rule, derivation, header),
     }
 }
@@ -60,22 +68,15 @@ fn check_counts<'a>(rule: &'a [u8], derivation: &'a [u8], header: Header) -> Che
     requires { ⌜ header ≡ header-of (now rule) ⌝ }
     ensures { λ r. ⌜ checking r ≡ check-from-13 (now (rule .entry)) (now (derivation .entry)) ⌝ }
 {
-    let length = derivation.len();
-    if length % 4 != 0 {
-        return Checking::Refused(13);
+    if has_wrong_length(derivation, DERIVATION_TRAILER) {
+        return Checking::Refused(Refusal::Alone(13));
     }
-    if length < 12 {
-        return Checking::Refused(13);
-    }
-    if 65536 < length {
-        return Checking::Refused(13);
-    }
-    let count = length / 4;
+    let count = derivation.len() / 4;
     if word(derivation, count - 1) != count {
-        return Checking::Refused(14);
+        return Checking::Refused(Refusal::Alone(14));
     }
-    if 1024 < word(derivation, count - 3) {
-        return Checking::Refused(14);
+    if MAX_LINES < word(derivation, count - 3) {
+        return Checking::Refused(Refusal::Alone(14));
     }
     check_structure(rule, derivation, header)
 }
@@ -84,18 +85,16 @@ fn check_counts<'a>(rule: &'a [u8], derivation: &'a [u8], header: Header) -> Che
 fn check_structure<'a>(rule: &'a [u8], derivation: &'a [u8], header: Header) -> Checking
     requires { ⌜ Accepted (now rule) ⌝ }
     requires { ⌜ header ≡ header-of (now rule) ⌝ }
-    requires { ⌜ Counted (now derivation) ⌝ }
+    requires { ⌜ RightCounts (now derivation) ⌝ }
     ensures { λ r. ⌜ checking r ≡ check-from-15 (now (rule .entry)) (now (derivation .entry)) ⌝ }
 {
     let end = derivation.len() / 4 - 3;
     let count = word(derivation, end);
-    let walk = walk_fault(derivation, header.variables, end, count);
-    if let Fault::At(number, line) = walk {
-        return Checking::RefusedAt(number, line);
+    if let Found::At(line) = walk_fault(derivation, header.variables, end, count) {
+        return Checking::Refused(Refusal::At(15, line));
     }
-    let literal = literal_fault(derivation, header.variables, count);
-    if let Fault::At(number, line) = literal {
-        return Checking::RefusedAt(number, line);
+    if let Found::At(line) = literal_fault(derivation, header.variables, count) {
+        return Checking::Refused(Refusal::At(16, line));
     }
     check_lines(rule, derivation, header, count)
 }
@@ -106,9 +105,8 @@ fn check_lines<'a>(rule: &'a [u8], derivation: &'a [u8], header: Header, count: 
     requires { ⌜ count ≡ line-count (now derivation) ⌝ }
     ensures { λ r. ⌜ checking r ≡ check-from-17 (now (rule .entry)) (now (derivation .entry)) ⌝ }
 {
-    let fault = judge_lines(rule, derivation, header, count);
-    if let Fault::At(number, line) = fault {
-        return Checking::RefusedAt(number, line);
+    if let Fault::At(number, line) = judge_lines(rule, derivation, header, count) {
+        return Checking::Refused(Refusal::At(number, line));
     }
     check_closing(rule, derivation, header, count)
 }
@@ -121,11 +119,11 @@ fn check_closing<'a>(rule: &'a [u8], derivation: &'a [u8], header: Header, count
 {
     let reference = word(derivation, derivation.len() / 4 - 2);
     if !is_named(reference, header.clauses, count) {
-        return Checking::Refused(21);
+        return Checking::Refused(Refusal::Alone(21));
     }
     let c = parent(rule, derivation, reference);
     if 4 <= c.len() {
-        return Checking::Refused(21);
+        return Checking::Refused(Refusal::Alone(21));
     }
     let value = parent_value(derivation, reference);
     Checking::Accepted(Closing {

@@ -1,5 +1,5 @@
 // Checks 15 and 16, over the lines, and where a line stands.
-use crate::Fault;
+use rule_file::Found;
 use rule_file::clauses::out_of_range;
 use rule_file::clauses::repeats;
 use rule_file::words::word;
@@ -8,10 +8,12 @@ ghost use mathlib.Core.Bool.{_||_};
 ghost use mathlib.Core.Option.{none};
 ghost use Prim.Native.Nat.{_+_, _≤_, _<_};
 ghost use lib.Dec.{eqb};
+ghost use Rattle.rule_file.specs.Limits.{max-variables};
+ghost use Rattle.rule_file.specs.Walk.{first};
 ghost use Rattle.rule_file.specs.Words.{word-count};
-ghost use Rattle.rule_file.specs.Reader.{first};
+ghost use Rattle.rule_file.specs.Checks.{place};
 ghost use Rattle.derivation.specs.DerivationFile.{trailer-start, after-line, lines-from, line-of};
-ghost use Rattle.derivation.specs.Check.{line-fits, walk-lines, line-fault, numbered, fault};
+ghost use Rattle.derivation.specs.Check.{line-fits, walk-lines, line-fails};
 
 // The word after the line at word i. A literal count is any 32-bit number, and the sum is 64 bits wide.
 pub(crate) fn after_line(derivation: &[u8], i: usize) -> usize
@@ -53,52 +55,52 @@ fn line_fits(derivation: &[u8], n: usize, end: usize, i: usize) -> bool
 
 // Check 15: the first line of the walk of `count` lines from word 0 that does not fit before `end`, or `count` where
 // only the walk's end is wrong.
-pub(crate) fn walk_fault(derivation: &[u8], n: usize, end: usize, count: usize) -> Fault
+pub(crate) fn walk_fault(derivation: &[u8], n: usize, end: usize, count: usize) -> Found
     requires { ⌜ end ≤ word-count (now derivation) ⌝ }
-    ensures { λ r. ⌜ fault r ≡ numbered 15 (walk-lines (now (derivation .entry)) n end count 0) ⌝ }
+    ensures { λ r. ⌜ place r ≡ walk-lines (now (derivation .entry)) n end count 0 ⌝ }
 {
     let mut line = 0;
     let mut i = 0;
     while line < count {
         if !line_fits(derivation, n, end, i) {
-            return Fault::At(15, line);
+            return Found::At(line);
         }
         i = after_line(derivation, i);
         line += 1;
     }
     if i != end {
-        return Fault::At(15, count);
+        return Found::At(count);
     }
-    Fault::Nothing
+    Found::Nothing
 }
 
 // Check 16 of one line.
 fn line_fails(derivation: &[u8], n: usize, i: usize) -> bool
     requires { ⌜ after-line (now derivation) i ≤ word-count (now derivation) ⌝ }
-    requires { ⌜ n ≤ 32 ⌝ }
-    ensures { λ r. ⌜ r ≡ line-fault n (line-of (now (derivation .entry)) i) ⌝ }
+    requires { ⌜ n ≤ max-variables ⌝ }
+    ensures { λ r. ⌜ r ≡ line-fails n (line-of (now (derivation .entry)) i) ⌝ }
 {
     let k = word(derivation, i + 1);
     if out_of_range(derivation, i + 2, k, n) {
         return true;
     }
-    repeats(derivation, i + 2, k)
+    repeats(derivation, i + 2, k, n)
 }
 
 // Check 16: the first line with a literal of 2n or more or with a variable twice.
-pub(crate) fn literal_fault(derivation: &[u8], n: usize, count: usize) -> Fault
-    requires { ⌜ n ≤ 32 ⌝ }
+pub(crate) fn literal_fault(derivation: &[u8], n: usize, count: usize) -> Found
+    requires { ⌜ n ≤ max-variables ⌝ }
     requires { ⌜ walk-lines (now derivation) n (trailer-start (now derivation)) count 0 ≡ none ⌝ }
-    ensures { λ r. ⌜ fault r ≡ numbered 16 (first (line-fault n) (lines-from (now (derivation .entry)) count 0)) ⌝ }
+    ensures { λ r. ⌜ place r ≡ first (line-fails n) (lines-from (now (derivation .entry)) count 0) ⌝ }
 {
     let mut line = 0;
     let mut i = 0;
     while line < count {
         if line_fails(derivation, n, i) {
-            return Fault::At(16, line);
+            return Found::At(line);
         }
         i = after_line(derivation, i);
         line += 1;
     }
-    Fault::Nothing
+    Found::Nothing
 }

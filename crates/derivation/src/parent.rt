@@ -9,10 +9,9 @@ ghost use mathlib.Core.Bool.{true};
 ghost use Prim.Native.Nat.{_/_, _%_, _≤_, _<_};
 ghost use Rattle.rule_file.specs.RuleFile.{clause-count, clause-start};
 ghost use Rattle.rule_file.specs.Accepted.{Accepted};
-ghost use Rattle.literals.specs.Literals.{literals-of};
 ghost use Rattle.derivation.specs.DerivationFile.{line-count};
-ghost use Rattle.derivation.specs.WellFormed.{Walked};
-ghost use Rattle.derivation.specs.Parent.{line-start, is-named, referent-literals, referent-value};
+ghost use Rattle.derivation.specs.Readable.{Walked};
+ghost use Rattle.derivation.specs.Parent.{line-start, is-named, referent-part, referent-value};
 
 // The word where clause j of the rule file begins.
 fn clause_start(rule: &[u8], j: usize) -> usize
@@ -60,7 +59,9 @@ pub(crate) fn parent<'a>(rule: &'a [u8], derivation: &'a [u8], reference: usize)
     requires { ⌜ Accepted (now rule) ⌝ }
     requires { ⌜ Walked (now derivation) ⌝ }
     requires { ⌜ is-named (clause-count (now rule)) (line-count (now derivation)) reference ≡ true ⌝ }
-    ensures { λ r. ⌜ literals-of (now r) ≡ referent-literals (now (rule .entry)) (now (derivation .entry)) reference ⌝ }
+    ensures { λ r. ⌜ now r ≡ referent-part (now (rule .entry)) (now (derivation .entry)) reference ⌝ }
+    ensures rule_unchanged { λ _. ⌜ now (rule .exit) ≡ now (rule .entry) ⌝ }
+    ensures derivation_unchanged { λ _. ⌜ now (derivation .exit) ≡ now (derivation .entry) ⌝ }
 {
     let j = reference / 2;
     if reference % 2 == 0 {

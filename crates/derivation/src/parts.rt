@@ -1,26 +1,16 @@
 // Literals as parts of the file that holds them, and values of two words.
+use rule_file::words::part;
 use rule_file::words::word;
 ghost use mathlib.Core.Path.{_≡_};
 ghost use Prim.Native.Nat.{_+_, _≤_};
-ghost use Rattle.rule_file.specs.Words.{word, word-count, words};
+ghost use Rattle.rule_file.specs.Words.{word, word-count, part};
 ghost use Rattle.rule_file.specs.RuleFile.{after-clause};
-ghost use Rattle.literals.specs.Literals.{literals-of};
-ghost use Rattle.derivation.specs.DerivationFile.{value-start, clause-of};
-
-// The k literals from word i on.
-fn part(file: &[u8], i: usize, k: usize) -> &[u8]
-    requires { ⌜ i + k ≤ word-count (now file) ⌝ }
-    ensures { λ r. ⌜ literals-of (now r) ≡ words (now (file .entry)) i k ⌝ }
-{
-    let start = 4 * i;
-    let end = 4 * (i + k);
-    &file[start..end]
-}
+ghost use Rattle.derivation.specs.DerivationFile.{size, value-start, clause-of};
 
 // The literals of the clause at word i of the rule file.
 pub(crate) fn clause_literals(rule: &[u8], i: usize) -> &[u8]
     requires { ⌜ after-clause (now rule) i ≤ word-count (now rule) ⌝ }
-    ensures { λ r. ⌜ literals-of (now r) ≡ words (now (rule .entry)) (i + 1) (word (now (rule .entry)) i) ⌝ }
+    ensures { λ r. ⌜ now r ≡ part (now (rule .entry)) (i + 1) (word (now (rule .entry)) i) ⌝ }
 {
     part(rule, i + 1, word(rule, i))
 }
@@ -28,7 +18,7 @@ pub(crate) fn clause_literals(rule: &[u8], i: usize) -> &[u8]
 // The literals of the line at word i of the derivation.
 pub(crate) fn line_literals(derivation: &[u8], i: usize) -> &[u8]
     requires { ⌜ value-start (now derivation) i + 2 ≤ word-count (now derivation) ⌝ }
-    ensures { λ r. ⌜ literals-of (now r) ≡ clause-of (now (derivation .entry)) i .literals ⌝ }
+    ensures { λ r. ⌜ now r ≡ part (now (derivation .entry)) (i + 2) (size (now (derivation .entry)) i) ⌝ }
 {
     part(derivation, i + 2, word(derivation, i + 1))
 }

@@ -1,6 +1,6 @@
--- The laws of the meaning of formulas: tests over lists, statuses, formulas, the tree of assignments; and document 01's own words for a node's status.
+-- The laws of the meaning of formulas: tests over lists, statuses, formulas, nodes, the tree of assignments.
 pub mod SomeLaws
 pub mod StatusLaws
 pub mod FormulaLaws
-pub mod Reading
+pub mod NodesLaws
 pub mod TreeLaws

@@ -1,8 +1,10 @@
--- A test over a list, one element at a time, as a loop takes it: ys is what is left. Assumes nothing.
+-- Tests over a list. First as a loop takes them, one element at a time, where ys is what is left: some-of, all-of,
+-- repeats. Then a test that no element passes, and tests of an appended list. Not here: a test as a statement on the
+-- elements (resolution, Membership). Assumes nothing.
 use mathlib.Core.Path.{_≡_, refl, ap, sym, _∙_}
-use mathlib.Core.Bool.{Bool, true, false, true≢false, _||_}
-use mathlib.Core.List.{List, [], _∷_}
-use Rattle.formula.specs.Formula.{some-of, repeats, is-of, variable}
+use mathlib.Core.Bool.{Bool, true, false, true≢false, _&&_, _||_, and-assoc, or-assoc}
+use mathlib.Core.List.{List, [], _∷_, _++_}
+use Rattle.formula.specs.Formula.{some-of, all-of, repeats}
 use Prim.Native.Nat.{ℕ}
 
 module _ {A : Type 0} (f : A → Bool) {x : A} {xs ys : List A} where
@@ -21,16 +23,24 @@ pub some-over : {A : Type 0} (f : A → Bool) {ys : List A} → ys ≡ [] → so
 unfolding some-of
 some-over f e = ap (some-of f) e
 
--- the same for a variable that stands twice
-module _ {x : ℕ} {xs ys : List ℕ} where
-  pub repeats-here : ys ≡ x ∷ xs → some-of (is-of (variable x)) xs ≡ true → repeats ys ≡ true
-  unfolding repeats
-  repeats-here e t = ap repeats e ∙ ap (_|| repeats xs) t
+-- the same for a test that every element passes
+module _ {A : Type 0} (f : A → Bool) {x : A} {xs ys : List A} where
+  -- the element at hand fails
+  pub all-fails : ys ≡ x ∷ xs → f x ≡ false → all-of f ys ≡ false
+  unfolding all-of
+  all-fails e t = ap (all-of f) e ∙ ap (_&& all-of f xs) t
 
-  pub repeats-later : ys ≡ x ∷ xs → some-of (is-of (variable x)) xs ≡ false → repeats xs ≡ repeats ys
-  unfolding repeats
-  repeats-later e t = sym (ap repeats e ∙ ap (_|| repeats xs) t)
+  -- it passes
+  pub all-later : ys ≡ x ∷ xs → f x ≡ true → all-of f xs ≡ all-of f ys
+  unfolding all-of
+  all-later e t = sym (ap (all-of f) e ∙ ap (_&& all-of f xs) t)
 
+-- none is left
+pub all-over : {A : Type 0} (f : A → Bool) {ys : List A} → ys ≡ [] → all-of f ys ≡ true
+unfolding all-of
+all-over f e = ap (all-of f) e
+
+-- where no literal is left, no variable stands twice
 pub repeats-over : {ys : List ℕ} → ys ≡ [] → repeats ys ≡ false
 unfolding repeats
 repeats-over e = ap repeats e
@@ -48,3 +58,21 @@ module _ {A : Type 0} (f : A → Bool) (x : A) (xs : List A) (e : some-of f (x �
   pub none-rest : some-of f xs ≡ false
   unfolding some-of
   none-rest = or-false (f x) (some-of f xs) e .1
+
+-- where neither test passes anywhere, the second does not
+pub none-second : {A : Type 0} (f g : A → Bool) (xs : List A) → some-of (λ x. f x || g x) xs ≡ false → some-of g xs ≡ false
+unfolding some-of
+none-second f g [] e = refl
+none-second f g (x ∷ xs) e =
+    let (e₁, e₂) = or-false (f x || g x) (some-of (λ x. f x || g x) xs) e in
+    rw (or-false (f x) (g x) e₁ .1) (none-second f g xs e₂)
+
+pub all-of-append : {A : Type 0} (f : A → Bool) (xs ys : List A) → all-of f (xs ++ ys) ≡ (all-of f xs && all-of f ys)
+unfolding all-of
+all-of-append f [] ys = refl
+all-of-append f (x ∷ xs) ys = ap (f x &&_) (all-of-append f xs ys) ∙ sym (and-assoc (f x) (all-of f xs) (all-of f ys))
+
+pub some-of-append : {A : Type 0} (f : A → Bool) (xs ys : List A) → some-of f (xs ++ ys) ≡ (some-of f xs || some-of f ys)
+unfolding some-of
+some-of-append f [] ys = refl
+some-of-append f (x ∷ xs) ys = ap (f x ||_) (some-of-append f xs ys) ∙ sym (or-assoc (f x) (some-of f xs) (some-of f ys))

@@ -1,6 +1,7 @@
--- Formulas in conjunctive normal form, and their status under a partial assignment. Assumes nothing.
--- A literal is a number: 2v is variable v and 2v + 1 its opposite. A clause is a list of literals, a formula a list of clauses.
--- An assignment lists the values of variables 0, 1, .. in prefix order, 1 for true and 0 for false. A variable past its end is unset.
+-- Formulas in conjunctive normal form, and their status under a partial assignment. Assumes nothing. A variable is
+-- document 01's condition, by its number in the prefix. A literal is a number: 2v is variable v and 2v + 1 its
+-- opposite. A clause is a list of literals, a formula a list of clauses. An assignment lists the values of variables 0,
+-- 1, .. in prefix order, 1 for true and 0 for false. A variable past its end is unset.
 use Prim.Native.Nat.{ℕ, _+_, _-_, _*_, _/_, _%_}
 use mathlib.Core.Bool.{Bool, true, false, cond, _&&_, _||_}
 use mathlib.Core.List.{List, [], _∷_}

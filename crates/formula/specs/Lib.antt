@@ -1,5 +1,7 @@
--- The meaning of a stochastic Boolean formula, over lists: statuses, literals and clauses, quantifiers, the tree of assignments.
+-- The meaning of a stochastic Boolean formula, over lists: statuses, literals and clauses, document 01's words for a
+-- node, quantifiers, the tree of assignments.
 pub mod Status
 pub mod Formula
+pub mod Nodes
 pub mod Quantifier
 pub mod Tree

@@ -7,18 +7,19 @@ ghost use mathlib.Core.List.{_++_};
 ghost use Prim.Native.Nat.{_^_, _<_};
 ghost use Rattle.formula.specs.Formula.{member};
 ghost use Rattle.resolution.specs.Resolution.{without, subset, is-resolvent};
-ghost use Rattle.literals.specs.Literals.{literals-of};
+ghost use Rattle.rule_file.specs.Words.{all-words};
 
 // Whether the literal l stands in s and is not p.
 fn contains_without(p: usize, s: &[u8], l: usize) -> bool
-    ensures { λ r. ⌜ r ≡ member l (without p (literals-of (now (s .entry)))) ⌝ }
+    requires { ⌜ l < 2 ^ 34 ⌝ }
+    ensures { λ r. ⌜ r ≡ member l (without p (all-words (now (s .entry)))) ⌝ }
 {
     l != p && contains(s, l)
 }
 
 // Whether each literal of c stands in s and is not p, or stands in t and is not q.
 fn all_from(c: &[u8], p: usize, s: &[u8], q: usize, t: &[u8]) -> bool
-    ensures { λ r. ⌜ r ≡ subset (literals-of (now (c .entry))) (without p (literals-of (now (s .entry))) ++ without q (literals-of (now (t .entry)))) ⌝ }
+    ensures { λ r. ⌜ r ≡ subset (all-words (now (c .entry))) (without p (all-words (now (s .entry))) ++ without q (all-words (now (t .entry)))) ⌝ }
 {
     let mut at = 0;
     let mut left = c.len() / 4;
@@ -35,7 +36,7 @@ fn all_from(c: &[u8], p: usize, s: &[u8], q: usize, t: &[u8]) -> bool
 
 // Whether each literal of s other than p stands in c.
 fn all_kept(p: usize, s: &[u8], c: &[u8]) -> bool
-    ensures { λ r. ⌜ r ≡ subset (without p (literals-of (now (s .entry)))) (literals-of (now (c .entry))) ⌝ }
+    ensures { λ r. ⌜ r ≡ subset (without p (all-words (now (s .entry)))) (all-words (now (c .entry))) ⌝ }
 {
     let mut at = 0;
     let mut left = s.len() / 4;
@@ -54,7 +55,10 @@ fn all_kept(p: usize, s: &[u8], c: &[u8]) -> bool
 // in s and q in t.
 pub fn is_resolvent(v: usize, s: &[u8], t: &[u8], c: &[u8]) -> bool
     requires { ⌜ v < 2 ^ 32 ⌝ }
-    ensures { λ r. ⌜ r ≡ is-resolvent v (literals-of (now (s .entry))) (literals-of (now (t .entry))) (literals-of (now (c .entry))) ⌝ }
+    ensures { λ r. ⌜ r ≡ is-resolvent v (all-words (now (s .entry))) (all-words (now (t .entry))) (all-words (now (c .entry))) ⌝ }
+    ensures true_side_unchanged { λ _. ⌜ now (s .exit) ≡ now (s .entry) ⌝ }
+    ensures false_side_unchanged { λ _. ⌜ now (t .exit) ≡ now (t .entry) ⌝ }
+    ensures clause_unchanged { λ _. ⌜ now (c .exit) ≡ now (c .entry) ⌝ }
 {
     let p = 2 * v + 1;
     let q = 2 * v;

@@ -1,4 +1,5 @@
--- The figure out of the denominator is Pr. Assumes that each literal's variable has its quantifier, and that the denominator is positive.
+-- The figure out of the denominator is Pr. Assumes that each literal's variable has its quantifier, and that the
+-- denominator is positive.
 use Prim.Native.Nat.{ℕ, zero, suc, _+_, _*_, _<_}
 use mathlib.Core.Path.{_≡_, refl, ap, ap₂, _∙_, fun-ext}
 use mathlib.Core.Bool.{Bool, true, false, cond, not, _&&_, _||_, false≢true, and-eq-true-iff}
@@ -17,7 +18,8 @@ use Rattle.probability.specs.Probability.{Proposition, constant, atom, n
 use Rattle.probability.proofs.FractionLaws.{maximum-over, mean-over}
 use Rattle.probability.proofs.Truth.{update, truth-substitute, override, override-snoc, numeral, formula-truth}
 
--- the definition's first line as the paper has it: 1 or 0 for a formula that is logically equivalent to true or to false
+-- the definition's first line as the paper has it: 1 or 0 for a formula that is logically equivalent to true or to
+-- false
 pub Pr-of-constant : (i : ℕ) (φ : Proposition) (b : Bool) → Equivalent φ (constant b) → Pr i [] φ ≡ cond b 1 0 over 1
 unfolding Pr truth
 Pr-of-constant i φ b h = ap (λ t. cond t 1 0 over 1) (h (λ x. false))

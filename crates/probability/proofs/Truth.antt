@@ -1,4 +1,5 @@
--- The truth of a formula after a substitution, and of a list of clauses under an assignment of all its variables. Assumes nothing.
+-- The truth of a formula after a substitution, and of a list of clauses under an assignment of all its variables.
+-- Assumes nothing.
 use Prim.Native.Nat.{ℕ, zero, suc, _*_, _%_, _<_}
 use mathlib.Core.Path.{_≡_, refl, sym, ap, ap₂, _∙_}
 use mathlib.Core.Bool.{Bool, true, false, cond, not, _&&_, _||_}

@@ -1,6 +1,2 @@
 -- Laws of the report.
-pub mod TextLaws
-pub mod DecimalLaws
 pub mod ReportLaws
-pub mod Sample
-pub mod AcceptedReport

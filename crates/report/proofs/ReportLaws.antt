@@ -1,52 +1,41 @@
--- The report's text, by the cases of what the code answered. Assumes nothing.
-use mathlib.Core.Path.{_≡_, sym, ap, _∙_}
-use mathlib.Core.List.{List, [], _∷_}
-use Prim.Native.Nat.{ℕ}
-use Rattle.rule_file.specs.Answer.{Answer}
+-- The report's text, by the case of what the reader answered; and that the figure and the cuts printed are those that
+-- the operations answer. Assumes nothing.
+use mathlib.Core.Path.{_≡_, refl, sym, ap, _∙_}
+use mathlib.Core.List.{List}
+use Prim.Native.Nat.{ℕ, _≤_}
+use Rattle.rule_file.specs.RuleFile.{variable-count, whole}
+use Rattle.rule_file.specs.Answer.{answer}
 use Rattle.rule_file.specs.Reader.{reading, read-file}
+use Rattle.rule_file.specs.Accepted.{Accepted}
 use Rattle.rule_file.specs.declared.Header.{Header}
+use Rattle.rule_file.specs.declared.Refusal.{Refusal}
 use Rattle.rule_file.specs.declared.Reading.{Reading}
-use Rattle.rule_file.specs.declared.Reading.the-variants as read-variants
-use Rattle.value.specs.Value.{figuring, figure-file}
-use Rattle.value.specs.declared.Ratio.{Ratio}
-use Rattle.value.specs.declared.Figuring.{Figuring}
-use Rattle.value.specs.declared.Figuring.the-variants as figure-variants
-use Rattle.bounds.specs.Cut.{cutting, cut-file}
+use Rattle.rule_file.specs.declared.Reading.the-variants as reading-variants
+use Rattle.value.specs.Value.{figure-of, figure-file}
+use Rattle.value.proofs.ValueLaws.{figure-answers}
+use Rattle.bounds.specs.Cut.{cut-of, cut-file}
 use Rattle.bounds.specs.declared.Bounds.{Bounds}
-use Rattle.bounds.specs.declared.Cutting.{Cutting}
-use Rattle.bounds.specs.declared.Cutting.the-variants as cut-variants
-use Rattle.report.specs.Text.{ascii, line}
-use Rattle.report.specs.Report.{text-of, value-line, cut-line, accepted-text, report-text}
-
--- g gives document 01's answer for each case of what the code answers
-by-case :
-    {A R : Type 0} (f : A → List ℕ) (g : R → Answer A) {r s : R} {a : Answer A} → g r ≡ a → r ≡ s → text-of f a ≡ text-of f (g s)
-by-case f g e c = ap (text-of f) (sym e ∙ ap g c)
-
-module _ (b : List ℕ) (r : Figuring) (e : figuring r ≡ figure-file b) where
-  pub value-refused : (k : ℕ) → r ≡ figure-variants.Refused k → value-line b ≡ line (ascii "refused") (k ∷ [])
-  unfolding value-line
-  value-refused k = by-case _ figuring e
-
-  pub value-answered : (x : Ratio) → r ≡ figure-variants.Answered x → value-line b ≡ line (ascii "value") (x .figure ∷ [])
-  unfolding value-line
-  value-answered x = by-case _ figuring e
-
-module _ (b : List ℕ) (d : ℕ) (r : Cutting) (e : cutting r ≡ cut-file b d) where
-  pub cut-refused : (k : ℕ) → r ≡ cut-variants.Refused k → cut-line b d ≡ line (ascii "refused") (k ∷ [])
-  unfolding cut-line
-  cut-refused k = by-case _ cutting e
-
-  pub cut-answered :
-      (x : Bounds) → r ≡ cut-variants.Answered x → cut-line b d ≡ line (ascii "cut") (d ∷ x .lower ∷ x .upper ∷ x .undetermined ∷ [])
-  unfolding cut-line
-  cut-answered x = by-case _ cutting e
+use Rattle.bounds.proofs.CutAnswer.{cut-answers}
+use Rattle.report.specs.Report.{refusal-line, bounds-line, cut-line, accepted-text, text-by, report-text}
 
 module _ (b : List ℕ) (r : Reading) (e : reading r ≡ read-file b) where
-  pub report-refused : (k : ℕ) → r ≡ read-variants.Refused k → report-text b ≡ line (ascii "refused") (k ∷ [])
+  pub report-refused : (k : Refusal) → r ≡ reading-variants.Refused k → report-text b ≡ refusal-line k
   unfolding report-text
-  report-refused k = by-case _ reading e
+  report-refused k c = ap (text-by b) (sym e ∙ ap reading c)
 
-  pub report-accepted : (h : Header) → r ≡ read-variants.Accepted h → report-text b ≡ accepted-text b h
+  pub report-accepted : (h : Header) → r ≡ reading-variants.Accepted h → report-text b ≡ accepted-text b
   unfolding report-text
-  report-accepted h = by-case _ reading e
+  report-accepted h c = ap (text-by b) (sym e ∙ ap reading c)
+
+-- the line of the cut that the code has
+pub cut-line-by : (b : List ℕ) (d : ℕ) (x : Bounds) → x ≡ cut-of b d → cut-line b d ≡ bounds-line d x
+unfolding cut-line
+cut-line-by b d x e = ap (bounds-line d) (sym e)
+
+-- what is printed of an accepted file is what the operations answer
+module _ (b : List ℕ) (a : Accepted b) where
+  pub printed-figure : figure-file b ≡ answer (record { figure = figure-of b; whole = whole b })
+  printed-figure = sym (figure-answers b a _ _ refl refl)
+
+  pub printed-cut : (d : ℕ) → d ≤ variable-count b → cut-file b d ≡ answer (cut-of b d)
+  printed-cut d h = sym (cut-answers b a d h _ refl)

@@ -1,3 +1,2 @@
 -- The text that the program prints for a rule file.
-pub mod Text
 pub mod Report

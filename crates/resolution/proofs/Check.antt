@@ -1,4 +1,5 @@
--- The check refuses no line exactly where every line follows by the rules, and closes exactly on an empty clause. Assumes nothing.
+-- The check refuses no line exactly where every line follows by the rules, and closes exactly on an empty clause.
+-- Assumes nothing.
 use Prim.Native.Nat.{ℕ, zero, suc, _+_, _*_, _/_, _%_, _≤_, _<_, suc-le-suc}
 use native.Mathlib.Nat.{add-zero, add-suc, suc-add, zero-add, not-suc-le-zero, le-of-suc-le-suc, zero-lt-suc, le-of-eq}
 use native.Mathlib.Omega.{arith}
@@ -11,7 +12,7 @@ use lib.ListN.{length, drop-of-length-le}
 use lib.Dec.{eqb, ltb, leb}
 use borrow.Author.Tests.{eqb-true, eqb-false, eq-eqb, ltb-true, lt-ltb, leb-true, le-leb}
 use Rattle.formula.specs.Quantifier.{Quantifier}
-use Rattle.resolution.specs.Resolution.{Annotated, Blocking, Resolves, Resolvent, Line, blocking, resolvent, derived, clause-at, line-at, Names, clause, line, Follows, by-R2, by-R3}
+use Rattle.resolution.specs.Resolution.{Annotated, Blocking, Resolves, Resolvent, Line, blocking, resolvent, derived, original-clause, line-at, Names, clause, line, Follows, by-R2, by-R3}
 use Rattle.resolution.specs.Resolution.{is-resolvent, some-if, lookup, require, judge-resolvent, judge, first-refusal, judge-from, judge-lines, empty-value, closing-value}
 use Rattle.resolution.proofs.Membership.{and-iff, all-of-iff, some-of-iff, member-iff, remainder-iff}
 
@@ -39,10 +40,10 @@ module _ (φ : List (List ℕ)) (lines : List Line) (k : ℕ) where
   lookup-names r c = go (eqb (r % 2) 0) refl
     where
       go : (even : Bool) → eqb (r % 2) 0 ≡ even
-          → cond even (some-if (ltb (r / 2) (length φ)) (clause-at φ (r / 2))) (some-if (ltb (r / 2) k) (derived (line-at lines (r / 2)))) ≡ some c
+          → cond even (some-if (ltb (r / 2) (length φ)) (original-clause φ (r / 2))) (some-if (ltb (r / 2) k) (derived (line-at lines (r / 2)))) ≡ some c
           → Names φ lines k r c
       go true h e =
-          let (below, is) = some-if-is (ltb (r / 2) (length φ)) (clause-at φ (r / 2)) c e in
+          let (below, is) = some-if-is (ltb (r / 2) (length φ)) (original-clause φ (r / 2)) c e in
           let twice : 2 * (r / 2) ≡ r = omega (arith, eqb-true (r % 2) 0 h) in
           subst₂ (Names φ lines k) twice is (clause (r / 2) (ltb-true (r / 2) (length φ) below))
       go false h e =

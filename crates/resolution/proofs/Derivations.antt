@@ -11,14 +11,14 @@ use lib.ListN.{length}
 use borrow.Author.Tests.{eqb-false}
 use Rattle.formula.specs.Formula.{variable, some-of, is-of, repeats}
 use Rattle.formula.specs.Quantifier.{Quantifier}
-use Rattle.formula.specs.Tree.{figure}
 use Rattle.formula.proofs.SomeLaws.{or-false}
 use Rattle.resolution.specs.Resolution.{_∈_, Annotated, NonTautological, Derivable, R1, R2, R3, Line, derived, line-at, Names, clause, line}
-use Rattle.resolution.specs.Resolution.{Follows, by-R2, by-R3, lookup, judge, judge-lines, closing-value}
+use Rattle.resolution.specs.Resolution.{Follows, by-R2, by-R3, lookup, judge, judge-lines}
+use Rattle.resolution.specs.Claims.{Sound, ClosesWithFigure}
 use Rattle.resolution.proofs.Membership.{none-of, getD-in}
 use Rattle.resolution.proofs.Levels.{opposite-is}
 use Rattle.resolution.proofs.Check.{lookup-names, judge-iff, judge-lines-iff, closing-iff}
-use Rattle.resolution.proofs.Soundness.{Sound, derivable-sound, derivable-empty}
+use Rattle.resolution.proofs.Soundness.{derivable-sound, derivable-empty}
 
 module _ (x : ℕ) (xs : List ℕ) (e : repeats (x ∷ xs) ≡ false) where
   repeats-parts : (some-of (is-of (variable x)) xs ≡ false) × (repeats xs ≡ false)
@@ -68,8 +68,8 @@ module _ (φ : List (List ℕ)) (qs : List Quantifier) (lines : List Line)
   pub accepted-sound : judge-lines φ qs lines ≡ none → {r : ℕ} {c : Annotated} → Names φ lines (length lines) r c → Sound φ qs c
   accepted-sound e n = derivable-sound (accepted-derivable e n)
 
-  -- the closing value of an accepted derivation is the figure
-  pub closing-is-figure : (r x : ℕ) → judge-lines φ qs lines ≡ none → closing-value φ lines r ≡ some x → figure φ qs ≡ x
+  -- Corollary 3.2 for the closing reference
+  pub closing-is-figure : (r : ℕ) → ClosesWithFigure φ qs lines r
   closing-is-figure r x e close = derivable-empty (accepted-derivable e (closing-iff φ lines r x .0 close))
 
   -- what the check may take for granted of the parents of line n

@@ -33,7 +33,8 @@ unfolding level
 level-least n [] h = zero-le
 level-least n (k ∷ ks) h = omega (arith, h k (List·Memᴰ·head refl), level-least n ks (λ l m. h l (List·Memᴰ·tail m)))
 
--- what the two parents of a resolvent c on v have in common: s holds a literal k of v, no variable after v, and its other literals are in c
+-- what the two parents of a resolvent c on v have in common: s holds a literal k of v, no variable after v, and its
+-- other literals are in c
 pub record Parent (v k : ℕ) (s c : List ℕ) : Type 0 where
   pub holds : k ∈ s
   pub of : variable k ≡ v

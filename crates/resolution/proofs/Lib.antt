@@ -1,7 +1,8 @@
--- The check of a derivation is the rules of S-resolution, and the rules are sound.
+-- The check of a derivation is the rules of S-resolution, the rules are sound, and R.2 is 004's.
 pub mod Membership
 pub mod Check
 pub mod Levels
 pub mod Soundness
+pub mod Implied
 pub mod Bounds
 pub mod Derivations

@@ -1,2 +1,3 @@
--- S-resolution and the check of its derivations, over lists.
+-- S-resolution and the check of its derivations, over lists, and what is claimed of both.
 pub mod Resolution
+pub mod Claims

@@ -1,23 +1,40 @@
--- A file is answered exactly where it is Accepted, and then by its header. Assumes nothing.
+-- A file is answered exactly where it is Accepted, and then by its header; and what a caller of `read` knows by the
+-- case of its answer. Assumes nothing.
 use mathlib.Core.Path.{_≡_, refl, sym, ap, _∙_}
 use mathlib.Core.Bool.{Bool, true, false}
 use mathlib.Core.List.{List}
-use mathlib.Core.Option.{none}
+use mathlib.Core.Option.{Option, none, some}
 use Prim.Native.Nat.{ℕ}
 use native.Mathlib.Omega.{arith}
-use Rattle.rule_file.specs.Answer.{Answer, refused, answer, refuse-if}
+use Rattle.rule_file.specs.Limits.{rule-trailer}
+use Rattle.rule_file.specs.Answer.{Answer, refused, answer, refuse-if, refuse-at, and-then}
 use Rattle.rule_file.specs.RuleFile.{clauses, prefix}
 use Rattle.rule_file.specs.Reader.{reading, read-file, read-from-3, read-from-5, read-from-8}
 use Rattle.rule_file.specs.Accepted.{Accepted, header}
 use Rattle.rule_file.specs.declared.Header.{Header}
+use Rattle.rule_file.specs.declared.Refusal.{Refusal}
 use Rattle.rule_file.specs.declared.Reading.{Reading}
 use Rattle.rule_file.specs.declared.Reading.the-variants as reading-variants
-use Rattle.rule_file.proofs.ReaderLaws.{check-1, check-2, check-3, check-4, check-9, found-first, found-none}
+use Rattle.rule_file.proofs.WalkLaws.{found-first, found-none}
+use Rattle.rule_file.proofs.WordsLaws.{right-length}
+use Rattle.rule_file.proofs.ReaderLaws.{check-2, check-3, check-4, check-9}
 
--- an answer has passed the check at hand
+-- an answer is no refusal
+pub answer-no-refusal : {A : Type 0} (r : Refusal) (x : A) → refused r ≡ answer x → ⊥
+answer-no-refusal r x e = let z : _≡_ {A = ℕ} 0 1 = cc in omega arith
+
+-- it has passed the check at hand
 pub passed : {A : Type 0} (t : Bool) (k : ℕ) (rest : Answer A) (x : A) → refuse-if t k rest ≡ answer x → (t ≡ false) × (rest ≡ answer x)
 passed false k rest x e = (refl, e)
-passed true k rest x e = let z : _≡_ {A = ℕ} 0 1 = cc in absurd (omega arith)
+passed true k rest x e = absurd (answer-no-refusal _ x e)
+
+pub passed-at : {A : Type 0} (o : Option ℕ) (k : ℕ) (rest : Answer A) (x : A) → refuse-at o k rest ≡ answer x → (o ≡ none) × (rest ≡ answer x)
+passed-at none k rest x e = (refl, e)
+passed-at (some i) k rest x e = absurd (answer-no-refusal _ x e)
+
+pub passed-then : {A B : Type 0} (r : Answer A) (f : A → Answer B) (x : B) → and-then r f ≡ answer x → (a : A) × (r ≡ answer a) × (f a ≡ answer x)
+passed-then (refused r) f x e = absurd (answer-no-refusal r x e)
+passed-then (answer a) f x e = (a, refl, e)
 
 pub answered : (b : List ℕ) (h : Header) → read-file b ≡ answer h → Accepted b × (h ≡ header b)
 unfolding read-file read-from-3 read-from-5 read-from-8
@@ -33,7 +50,7 @@ answered b h e =
     let (e₉, r₉) = passed _ _ _ h r₈ in
     let counts = check-3 b .0 e₃ in (
       record {
-        right-length = check-1 b .0 e₁;
+        right-length = right-length rule-trailer b .0 e₁;
         right-count = check-2 b .0 e₂;
         few-variables = counts .0;
         few-clauses = counts .1;
@@ -51,7 +68,7 @@ pub accepted-answers : (b : List ℕ) → Accepted b → read-file b ≡ answer 
 unfolding read-file read-from-3 read-from-5 read-from-8
 accepted-answers b a =
     rw (
-      check-1 b .1 (a .right-length),
+      right-length rule-trailer b .1 (a .right-length),
       check-2 b .1 (a .right-count),
       check-3 b .1 (a .few-variables, a .few-clauses),
       check-4 b .1 (a .prefix-ends),
@@ -63,8 +80,18 @@ accepted-answers b a =
     )
 
 -- what the reader answered, for a caller that goes by the case of it
-pub reading-refused : (b : List ℕ) (r : Reading) (k : ℕ) → reading r ≡ read-file b → r ≡ reading-variants.Refused k → read-file b ≡ refused k none
-reading-refused b r k e c = sym e ∙ ap reading c
+module _ (b : List ℕ) (r : Reading) where
+  pub reading-refused : (k : Refusal) → reading r ≡ read-file b → r ≡ reading-variants.Refused k → read-file b ≡ refused k
+  reading-refused k e c = sym e ∙ ap reading c
 
-pub reading-accepted : (b : List ℕ) (r : Reading) (h : Header) → reading r ≡ read-file b → r ≡ reading-variants.Accepted h → Accepted b × (h ≡ header b)
-reading-accepted b r h e c = answered b h (sym e ∙ ap reading c)
+  pub reading-accepted : (h : Header) → reading r ≡ read-file b → r ≡ reading-variants.Accepted h → Accepted b × (h ≡ header b)
+  reading-accepted h e c = answered b h (sym e ∙ ap reading c)
+
+-- an operation that goes on from the reader's answer: of a refused file it answers the refusal, of an accepted one what
+-- it goes on with
+module _ {A : Type 0} (b : List ℕ) (f : Header → Answer A) where
+  pub then-refused : (k : Refusal) → read-file b ≡ refused k → refused k ≡ and-then (read-file b) f
+  then-refused k e = rw e
+
+  pub then-accepted : Accepted b → f (header b) ≡ and-then (read-file b) f
+  then-accepted a = rw (accepted-answers b a)

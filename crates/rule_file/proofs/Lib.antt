@@ -1,6 +1,7 @@
 -- Laws of the file's definitions, which the proofs of this crate and of those above it cite.
-pub mod WordsLaws
 pub mod WalkLaws
+pub mod WordsLaws
+pub mod ClauseLaws
 pub mod PrefixLaws
 pub mod ReaderLaws
 pub mod AcceptedLaws

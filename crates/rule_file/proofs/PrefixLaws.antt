@@ -1,34 +1,25 @@
--- The prefix, one variable at a time, as a loop takes it; totals and denominators of a well-formed prefix; products capped past 2^60.
--- Assumes nothing.
+-- Quantifiers by their weights; totals and denominators of a well-formed prefix; products capped past the largest
+-- whole, one variable at a time; and a part of the prefix: where it stands, and that its denominator is within the
+-- whole. Assumes nothing. Entries one at a time are WalkLaws' elements.
 use mathlib.Core.Path.{_≡_, refl, sym, ap, _∙_}
-use mathlib.Core.Bool.{false, true≢false, not, _||_}
-use mathlib.Core.List.{List, [], _∷_}
+use mathlib.Core.Bool.{false, true≢false}
+use mathlib.Core.List.{List, [], _∷_, _++_}
 use Prim.Native.Nat.{ℕ, zero, suc, _+_, _-_, _*_, _≤_, _<_, min}
-use native.Mathlib.Nat.{min-eq-left, min-eq-right, mul-le-mul-right, mul-le-mul-left, mul-assoc, mul-comm, mul-one, le-trans, mul-pos}
+use native.Mathlib.Nat.{min-eq-left, min-eq-right, mul-le-mul-right, mul-le-mul-left, mul-assoc, mul-comm, mul-one, le-trans, le-refl, mul-pos, le-mul-of-pos-right}
 use native.Mathlib.Decide.{decLe}
 use native.Mathlib.Omega.{arith}
-use lib.ListN.{length}
-use lib.Dec.{eqb, ltb, eqb·suc-zero}
+use lib.ListN.{length, getD, take, drop, take-append-drop}
+use lib.Dec.{eqb·suc-zero}
 use Rattle.formula.specs.Formula.{some-of}
 use Rattle.formula.specs.Quantifier.{Quantifier, existential, randomized, total, denominator}
-use Rattle.formula.proofs.SomeLaws.{none-first, none-rest}
-use Rattle.rule_file.specs.Words.{word}
-use Rattle.rule_file.specs.RuleFile.{quantifier, prefix-from}
+use Rattle.formula.proofs.SomeLaws.{or-false, none-first, none-rest, some-of-append}
+use Rattle.formula.proofs.TreeLaws.{denominator-append}
+use Rattle.rule_file.specs.Limits.{max-whole}
+use Rattle.rule_file.specs.Walk.{start}
+use Rattle.rule_file.specs.RuleFile.{variable-count, prefix-start, quantifier, after-entry, quantifier-at, prefix-from, prefix}
 use Rattle.rule_file.specs.Reader.{malformed}
-
-module _ (b : List ℕ) (left i : ℕ) where
-  pub prefix-step : 0 < left → prefix-from b left i ≡ quantifier (word b i) (word b (i + 1)) ∷ prefix-from b (left - 1) (i + 2)
-  unfolding prefix-from
-  prefix-step h = let e : left ≡ suc (left - 1) = omega arith in rw (ap (λ (k : ℕ). prefix-from b k i) e)
-
-  pub prefix-over : left ≤ 0 → prefix-from b left i ≡ []
-  unfolding prefix-from
-  prefix-over h = let e : left ≡ 0 = omega arith in rw e
-
-pub prefix-length : (b : List ℕ) (left i : ℕ) → length (prefix-from b left i) ≡ left
-unfolding prefix-from
-prefix-length b zero i = refl
-prefix-length b (suc left) i = ap suc (prefix-length b left (i + 2))
+use Rattle.rule_file.specs.Accepted.{Accepted}
+use Rattle.rule_file.proofs.WalkLaws.{elements-length, element-is, elements-take, elements-drop, elements-step}
 
 -- a quantifier by its weights: both 0, or not
 pub quantifier-none : (s t : ℕ) → s + t ≡ 0 → quantifier s t ≡ existential
@@ -40,18 +31,6 @@ unfolding quantifier
 quantifier-some zero zero f = absurd (f refl)
 quantifier-some zero (suc t) f = rw (eqb·suc-zero t)
 quantifier-some (suc s) t f = rw (eqb·suc-zero s)
-
--- check 8 by the first weight: 0, or not
-pub malformed-zero : (s t : ℕ) → s ≡ 0 → malformed (quantifier s t) ≡ not (eqb t 0)
-unfolding malformed quantifier
-malformed-zero zero zero e = refl
-malformed-zero zero (suc t) e = rw (eqb·suc-zero t)
-malformed-zero (suc s) t e = absurd (omega arith)
-
-pub malformed-suc : (s t : ℕ) → (s ≡ 0 → ⊥) → malformed (quantifier s t) ≡ eqb t 0 || ltb 65535 s || ltb 65535 t
-unfolding malformed quantifier
-malformed-suc zero t f = absurd (f refl)
-malformed-suc (suc s) t f = simp eqb·suc-zero
 
 pub total-pos : (q : Quantifier) → malformed q ≡ false → 0 < total q
 unfolding malformed
@@ -80,20 +59,76 @@ capped c t x d h = go (decLe (t * x) c)
 
 -- a well-formed prefix, one variable at a time
 module _ (b : List ℕ) (left i : ℕ) (h : 0 < left) (e : some-of malformed (prefix-from b left i) ≡ false) where
-  well-formed : some-of malformed (quantifier (word b i) (word b (i + 1)) ∷ prefix-from b (left - 1) (i + 2)) ≡ false
-  well-formed = sym (ap (some-of malformed) (prefix-step b left i h)) ∙ e
+  well-formed : some-of malformed (quantifier-at b i ∷ prefix-from b (left - 1) (after-entry i)) ≡ false
+  well-formed = sym (ap (some-of malformed) (elements-step after-entry (quantifier-at b) left i h)) ∙ e
 
-  pub well-formed-first : malformed (quantifier (word b i) (word b (i + 1))) ≡ false
+  pub well-formed-first : malformed (quantifier-at b i) ≡ false
   well-formed-first = none-first malformed _ _ well-formed
 
-  pub well-formed-rest : some-of malformed (prefix-from b (left - 1) (i + 2)) ≡ false
+  pub well-formed-rest : some-of malformed (prefix-from b (left - 1) (after-entry i)) ≡ false
   well-formed-rest = none-rest malformed _ _ well-formed
 
   pub capped-step :
       (c x : ℕ) →
-      min (min (total (quantifier (word b i) (word b (i + 1))) * x) c * denominator (prefix-from b (left - 1) (i + 2))) c
+      min (min (total (quantifier-at b i) * x) c * denominator (prefix-from b (left - 1) (after-entry i))) c
       ≡ min (x * denominator (prefix-from b left i)) c
   unfolding denominator
   capped-step c x =
       capped c _ x _ (denominator-pos _ well-formed-rest) ∙
-      ap (λ (d : ℕ). min (x * d) c) (sym (ap denominator (prefix-step b left i h)))
+      ap (λ (d : ℕ). min (x * d) c) (sym (ap denominator (elements-step after-entry (quantifier-at b) left i h)))
+
+-- A part of the prefix
+
+pub entry-start : (i j : ℕ) → start after-entry i j ≡ i + 2 * j
+unfolding start
+entry-start i zero = omega arith
+entry-start i (suc j) = let e : i + 2 * j + 2 ≡ i + 2 * suc j = omega arith in ap (_+ 2) (entry-start i j) ∙ e
+
+module _ (b : List ℕ) where
+  pub prefix-length : length (prefix b) ≡ variable-count b
+  prefix-length = elements-length after-entry (quantifier-at b) (variable-count b) (prefix-start b)
+
+  -- where the weights of variable v stand
+  pub quantifier-is : (v : ℕ) → v < variable-count b → getD (prefix b) v existential ≡ quantifier-at b (prefix-start b + 2 * v)
+  quantifier-is v h =
+      element-is after-entry (quantifier-at b) existential (variable-count b) (prefix-start b) v h
+      ∙ ap (quantifier-at b) (entry-start (prefix-start b) v)
+
+  first-part : (to : ℕ) → to ≤ variable-count b → take to (prefix b) ≡ prefix-from b to (prefix-start b)
+  first-part to h = elements-take after-entry (quantifier-at b) to (variable-count b) (prefix-start b) h
+
+  -- where the weights of variables from .. to - 1 stand
+  pub prefix-part-is : (from to : ℕ) → from ≤ to → to ≤ variable-count b
+      → drop from (take to (prefix b)) ≡ prefix-from b (to - from) (prefix-start b + 2 * from)
+  prefix-part-is from to h k =
+      ap (drop from) (first-part to k) ∙ elements-drop after-entry (quantifier-at b) from to (prefix-start b) h
+      ∙ ap (prefix-from b (to - from)) (entry-start (prefix-start b) from)
+
+  -- a part that goes on to the prefix's end
+  pub last-part : (from : ℕ) → drop from (take (variable-count b) (prefix b)) ≡ drop from (prefix b)
+  last-part from = ap (drop from) (first-part (variable-count b) (le-refl _))
+
+-- the quantifiers are well-formed, and their denominator is at most the largest whole
+abbrev pub Within : List Quantifier → Type 0
+Within qs = (some-of malformed qs ≡ false) × (denominator qs ≤ max-whole)
+
+module _ (qs rs : List Quantifier) (h : Within (qs ++ rs)) where
+  both-well-formed : (some-of malformed qs ≡ false) × (some-of malformed rs ≡ false)
+  both-well-formed = or-false _ _ (sym (some-of-append malformed qs rs) ∙ h .0)
+
+  product-within : denominator rs * denominator qs ≤ max-whole
+  product-within = rw denominator-append at (h .1)
+
+  first-within : Within qs
+  first-within =
+      (both-well-formed .0, le-trans (rw mul-comm (le-mul-of-pos-right (denominator qs) (denominator-pos rs (both-well-formed .1)))) product-within)
+
+  second-within : Within rs
+  second-within = (both-well-formed .1, le-trans (le-mul-of-pos-right (denominator rs) (denominator-pos qs (both-well-formed .0))) product-within)
+
+pub part-within :
+    (b : List ℕ) → Accepted b → (from to : ℕ) → from ≤ to → to ≤ variable-count b → Within (prefix-from b (to - from) (prefix-start b + 2 * from))
+part-within b a from to h k =
+    let whole : Within (prefix b) = (a .well-formed, a .bounded) in
+    let first : Within (take to (prefix b)) = first-within _ (drop to (prefix b)) (rw take-append-drop whole) in
+    rw (← (prefix-part-is b from to h k)) (second-within (take from (take to (prefix b))) _ (rw take-append-drop first))

@@ -1,16 +1,108 @@
--- The walk over clauses, one clause at a time, as a loop takes it, and what a walk without fault says of each clause. Assumes nothing.
-use mathlib.Core.Path.{_≡_, refl, sym, ap, _∙_}
-use mathlib.Core.Bool.{Bool, true, false, true≢false, false≢true, not, cond, _&&_}
-use mathlib.Core.List.{List, [], _∷_}
-use mathlib.Core.Option.{Option, none, some}
-use Prim.Native.Nat.{ℕ, suc, _+_, _-_, _≤_, _<_}
+-- Elements that stand one after another in a file, for every `next` and `at`: how many there are, where each stands,
+-- their first and last ones, one more of them, and a test that none passes; one element at a time, as a loop takes
+-- them; first places, as a loop counts them; and the walk. What fits and what an element is is said by the laws of
+-- clauses, of the prefix and of derivation lines. Assumes nothing.
+use mathlib.Core.Path.{_≡_, refl, sym, ap, ap₂, _∙_}
+use mathlib.Core.Bool.{Bool, true, false, true≢false, cond}
+use mathlib.Core.List.{List, [], _∷_, _++_}
+use mathlib.Core.Option.{Option, none, some, Option·some-ne-none}
+use Prim.Native.Nat.{ℕ, zero, suc, _+_, _-_, _≤_, _<_}
+use native.Mathlib.Nat.{not-suc-le-zero, le-of-suc-le-suc}
+use native.Mathlib.Numerals.{add-one}
 use native.Mathlib.Omega.{arith}
 use lib.Dec.{eqb}
-use borrow.Author.Tests.{lt-ltb, le-leb, ltb-true, leb-true}
-use Rattle.rule_file.specs.Words.{word, words}
-use Rattle.rule_file.specs.RuleFile.{after-clause, clauses-from}
-use Rattle.rule_file.specs.Answer.{found, later}
-use Rattle.rule_file.specs.Reader.{walk, clause-fits}
+use lib.ListN.{length, getD, take, drop}
+use borrow.Author.Tests.{eq-eqb, ne-eqb}
+use Rattle.formula.specs.Formula.{some-of}
+use Rattle.formula.proofs.SomeLaws.{none-first, none-rest}
+use Rattle.rule_file.specs.Walk.{start, elements, found, later, first, walk}
+
+-- Where elements stand
+
+module _ (next : ℕ → ℕ) where
+  -- the walk from the second element is the walk from the first, one element later
+  pub start-next : (i j : ℕ) → start next (next i) j ≡ start next i (suc j)
+  unfolding start
+  start-next i zero = refl
+  start-next i (suc j) = ap next (start-next i j)
+
+  pub start-zero : (i : ℕ) → start next i 0 ≡ i
+  unfolding start
+  start-zero i = refl
+
+  pub start-suc : (i j : ℕ) → next (start next i j) ≡ start next i (j + 1)
+  unfolding start
+  start-suc i j = ap (start next i) (sym (add-one j))
+
+  -- what a step keeps, of the elements left and the word at hand, holds at each element
+  pub kept : (P : ℕ → ℕ → Type 0) → ((left i : ℕ) → P (suc left) i → P left (next i))
+      → (count i j : ℕ) → j ≤ count → P count i → P (count - j) (start next i j)
+  unfolding start
+  kept P keep count i zero h p = let e : count - 0 ≡ count = omega arith in rw e p
+  kept P keep count i (suc j) h p =
+      let e : count - j ≡ suc (count - suc j) = omega arith in
+      keep (count - suc j) (start next i j) (rw e at (kept P keep count i j (omega arith) p))
+
+  module _ {A : Type 0} (at : ℕ → A) where
+    pub elements-length : (left i : ℕ) → length (elements next at left i) ≡ left
+    unfolding elements
+    elements-length zero i = refl
+    elements-length (suc left) i = ap suc (elements-length left (next i))
+
+    pub element-is : (x : A) (left i j : ℕ) → j < left → getD (elements next at left i) j x ≡ at (start next i j)
+    unfolding elements start
+    element-is x zero i j h = absurd (not-suc-le-zero h)
+    element-is x (suc left) i zero h = refl
+    element-is x (suc left) i (suc j) h = element-is x left (next i) j (le-of-suc-le-suc h) ∙ ap at (start-next i j)
+
+    pub elements-take : (k left i : ℕ) → k ≤ left → take k (elements next at left i) ≡ elements next at k i
+    unfolding elements
+    elements-take zero left i h = refl
+    elements-take (suc k) zero i h = absurd (not-suc-le-zero h)
+    elements-take (suc k) (suc left) i h = ap (at i ∷_) (elements-take k left (next i) (le-of-suc-le-suc h))
+
+    pub elements-drop : (k left i : ℕ) → k ≤ left → drop k (elements next at left i) ≡ elements next at (left - k) (start next i k)
+    unfolding elements start
+    elements-drop zero left i h = let e : left ≡ left - 0 = omega arith in ap (λ n. elements next at n i) e
+    elements-drop (suc k) zero i h = absurd (not-suc-le-zero h)
+    elements-drop (suc k) (suc left) i h =
+        let e : left - k ≡ suc left - suc k = omega arith in
+        elements-drop k left (next i) (le-of-suc-le-suc h) ∙ ap₂ (elements next at) e (start-next i k)
+
+    -- one more is the next one, at the end
+    pub elements-last : (k i : ℕ) → elements next at (suc k) i ≡ elements next at k i ++ (at (start next i k) ∷ [])
+    unfolding elements start
+    elements-last zero i = refl
+    elements-last (suc k) i = ap (at i ∷_) (elements-last k (next i) ∙ ap (λ w. elements next at k (next i) ++ (at w ∷ [])) (start-next i k))
+
+    -- where no element passes the test, element j does not
+    pub none-at : (f : A → Bool) (left i j : ℕ) → j < left → some-of f (elements next at left i) ≡ false → f (at (start next i j)) ≡ false
+    unfolding elements start
+    none-at f zero i j h e = absurd (not-suc-le-zero h)
+    none-at f (suc left) i zero h e = none-first f _ _ e
+    none-at f (suc left) i (suc j) h e = ap (λ w. f (at w)) (sym (start-next i j)) ∙ none-at f left (next i) j (le-of-suc-le-suc h) (none-rest f _ _ e)
+
+    -- One element at a time, as a loop that counts down takes them
+
+    pub elements-step : (left i : ℕ) → 0 < left → elements next at left i ≡ at i ∷ elements next at (left - 1) (next i)
+    unfolding elements
+    elements-step left i h = let e : left ≡ suc (left - 1) = omega arith in ap (λ k. elements next at k i) e
+
+    pub elements-over : (left i : ℕ) → left ≤ 0 → elements next at left i ≡ []
+    unfolding elements
+    elements-over left i h = let e : left ≡ 0 = omega arith in ap (λ k. elements next at k i) e
+
+    -- and as a loop that counts up takes them: j of `count` are passed, and the next one stands at word i
+
+    pub elements-next : (count j i : ℕ) → j < count → elements next at (count - j) i ≡ at i ∷ elements next at (count - (j + 1)) (next i)
+    unfolding elements
+    elements-next count j i h = let e : count - j ≡ suc (count - (j + 1)) = omega arith in ap (λ k. elements next at k i) e
+
+    pub elements-passed : (count j i : ℕ) → count ≤ j → elements next at (count - j) i ≡ []
+    unfolding elements
+    elements-passed count j i h = let e : count - j ≡ 0 = omega arith in ap (λ k. elements next at k i) e
+
+-- First places
 
 pub found-later : (o : Option ℕ) → found (later o) ≡ found o
 found-later none = refl
@@ -20,77 +112,111 @@ pub later-none : (o : Option ℕ) → later o ≡ none → o ≡ none
 later-none none e = refl
 later-none (some j) e = absurd (true≢false (ap found e))
 
-and-true : (s t : Bool) → s && t ≡ true → (s ≡ true) × (t ≡ true)
-and-true true t e = (refl, e)
-and-true false t e = absurd (false≢true e)
+pub found-none : (o : Option ℕ) → found o ≡ false → o ≡ none
+found-none none e = refl
+found-none (some i) e = absurd (true≢false e)
 
--- where the clause at hand stands, from the test, and the test from that
-pub record Fits (b : List ℕ) (n end i : ℕ) : Type 0 where
-  pub starts : i < end
-  pub ends : after-clause b i ≤ end
-  pub short : word b i ≤ n
-
-fits-true : (b : List ℕ) (n end i : ℕ) → Fits b n end i → clause-fits b n end i ≡ true
-fits-true b n end i f = simp (lt-ltb _ _ (f .starts), le-leb _ _ (f .ends), le-leb _ _ (f .short))
-
-true-fits : (b : List ℕ) (n end i : ℕ) → clause-fits b n end i ≡ true → Fits b n end i
-true-fits b n end i e =
-    let (e₁₂, e₃) = and-true _ _ e in
-    let (e₁, e₂) = and-true _ _ e₁₂ in
-    record { starts = ltb-true _ _ e₁; ends = leb-true _ _ e₂; short = leb-true _ _ e₃ }
-
-fits-false : (b : List ℕ) (n end i : ℕ) → (Fits b n end i → ⊥) → clause-fits b n end i ≡ false
-fits-false b n end i f = go (clause-fits b n end i) refl
+-- a first place is found where some element passes
+pub found-first : {A : Type 0} (f : A → Bool) (xs : List A) → found (first f xs) ≡ some-of f xs
+unfolding first some-of
+found-first f [] = refl
+found-first f (x ∷ xs) = go (f x) refl (found-first f xs)
   where
-    go : (t : Bool) → clause-fits b n end i ≡ t → clause-fits b n end i ≡ false
-    go false e = e
-    go true e = absurd (f (true-fits b n end i e))
+    go : (t : Bool) → f x ≡ t → found (first f xs) ≡ some-of f xs → found (first f (x ∷ xs)) ≡ some-of f (x ∷ xs)
+    go true e h = rw (e, first)
+    go false e h = rw (e, first) (found-later (first f xs) ∙ h)
 
-module _ (b : List ℕ) (n end left i : ℕ) where
-  walk-suc : 0 < left → walk b n end left i ≡ walk b n end (suc (left - 1)) i
-  walk-suc h = let e : left ≡ suc (left - 1) = omega arith in ap (λ (k : ℕ). walk b n end k i) e
+pub first-none : {A : Type 0} (f : A → Bool) (xs : List A) → first f xs ≡ none → some-of f xs ≡ false
+first-none f xs e = sym (found-first f xs) ∙ ap found e
 
-  -- the clause at hand does not fit
-  pub walk-fault : 0 < left → (Fits b n end i → ⊥) → found (walk b n end left i) ≡ true
+pub none-first-place : {A : Type 0} (f : A → Bool) (xs : List A) → some-of f xs ≡ false → first f xs ≡ none
+none-first-place f xs e = found-none (first f xs) (found-first f xs ∙ e)
+
+-- what is found in the rest, counted from k
+unfoldable pub from : ℕ → Option ℕ → Option ℕ
+from k none = none
+from k (some i) = some (k + i)
+
+pub from-zero : (o : Option ℕ) → from 0 o ≡ o
+unfolding from
+from-zero none = refl
+from-zero (some i) = ap some (omega arith)
+
+pub from-here : (k : ℕ) → from k (some 0) ≡ some k
+unfolding from
+from-here k = ap some (omega arith)
+
+pub from-later : (k : ℕ) (o : Option ℕ) → from k (later o) ≡ from (k + 1) o
+unfolding from
+from-later k none = refl
+from-later k (some i) = ap some (omega arith)
+
+-- the first element that passes, one element at a time: ys is what is left
+module _ {A : Type 0} (f : A → Bool) (k : ℕ) {x : A} {xs ys : List A} where
+  pub first-here : ys ≡ x ∷ xs → f x ≡ true → from k (first f ys) ≡ some k
+  unfolding first
+  first-here e t = rw (e, t, first) (from-here k)
+
+  pub first-later : ys ≡ x ∷ xs → f x ≡ false → from (k + 1) (first f xs) ≡ from k (first f ys)
+  unfolding first
+  first-later e t = rw (e, t, first) (sym (from-later k (first f xs)))
+
+pub first-over : {A : Type 0} (f : A → Bool) (k : ℕ) {ys : List A} → ys ≡ [] → from k (first f ys) ≡ none
+unfolding first from
+first-over f k e = rw e
+
+-- The walk
+
+module _ (next : ℕ → ℕ) (fits : ℕ → Bool) (end : ℕ) where
+  step-fault : (left i : ℕ) → fits i ≡ false → walk next fits end (suc left) i ≡ some 0
   unfolding walk
-  walk-fault h f = let e = fits-false b n end i f in rw (walk-suc h, e, walk)
+  step-fault left i f = rw (f, walk)
 
-  -- it fits, and the walk goes on
-  walk-on : 0 < left → Fits b n end i → walk b n end left i ≡ later (walk b n end (left - 1) (after-clause b i))
+  step-on : (left i : ℕ) → fits i ≡ true → walk next fits end (suc left) i ≡ later (walk next fits end left (next i))
   unfolding walk
-  walk-on h f = let e = fits-true b n end i f in rw (walk-suc h, e, walk)
+  step-on left i f = rw (f, walk)
 
-  pub walk-next : 0 < left → Fits b n end i → found (walk b n end (left - 1) (after-clause b i)) ≡ found (walk b n end left i)
-  walk-next h f = sym (ap found (walk-on h f) ∙ found-later (walk b n end (left - 1) (after-clause b i)))
+  -- as a loop that counts up takes it: j of `count` elements are passed, and the next one stands at word i
+  pub walk-fault : (count j i : ℕ) → j < count → fits i ≡ false → from j (walk next fits end (count - j) i) ≡ some j
+  walk-fault count j i h f =
+      let e : count - j ≡ suc (count - (j + 1)) = omega arith in
+      rw (e, step-fault (count - (j + 1)) i f) (from-here j)
 
-  -- no clause is left
-  pub walk-over : left ≤ 0 → found (walk b n end left i) ≡ not (eqb i end)
+  pub walk-on : (count j i : ℕ) → j < count → fits i ≡ true
+      → from (j + 1) (walk next fits end (count - (j + 1)) (next i)) ≡ from j (walk next fits end (count - j) i)
+  walk-on count j i h f =
+      let e : count - j ≡ suc (count - (j + 1)) = omega arith in
+      rw (e, step-on (count - (j + 1)) i f) (sym (from-later j (walk next fits end (count - (j + 1)) (next i))))
+
+  -- no element is left
+  walk-over : (count j i : ℕ) → count ≤ j → walk next fits end (count - j) i ≡ cond (eqb i end) none (some 0)
   unfolding walk
-  walk-over h = let e : left ≡ 0 = omega arith in rw e (go (eqb i end))
+  walk-over count j i h = let e : count - j ≡ 0 = omega arith in ap (λ k. walk next fits end k i) e
+
+  pub walk-ended : (count j i : ℕ) → count ≤ j → i ≡ end → from j (walk next fits end (count - j) i) ≡ none
+  unfolding from
+  walk-ended count j i h e = rw (walk-over count j i h, eq-eqb i end e)
+
+  pub walk-missed : (count j i : ℕ) → count ≤ j → (i ≡ end → ⊥) → from j (walk next fits end (count - j) i) ≡ some j
+  walk-missed count j i h n = rw (walk-over count j i h, ne-eqb i end n) (from-here j)
+
+  -- a walk without fault: each element fits, and the walk from the next one is without fault
+  walked-fits : (left i : ℕ) → walk next fits end (suc left) i ≡ none → fits i ≡ true
+  walked-fits left i e = go (fits i) refl
     where
-      go : (t : Bool) → found (cond t none (some 0)) ≡ not t
-      go true = refl
-      go false = refl
+      go : (t : Bool) → fits i ≡ t → fits i ≡ true
+      go true f = f
+      go false f = absurd (Option·some-ne-none 0 (sym (step-fault left i f) ∙ e))
 
-  -- a walk without fault: the clause at hand fits, and the walk from the next one is without fault
-  pub walked-fits : 0 < left → walk b n end left i ≡ none → Fits b n end i
-  walked-fits h e = go (clause-fits b n end i) refl
-    where
-      go : (t : Bool) → clause-fits b n end i ≡ t → Fits b n end i
-      go true t = true-fits b n end i t
-      go false t =
-          absurd
-          (true≢false (sym (walk-fault h (λ f. true≢false (sym (fits-true b n end i f) ∙ t))) ∙ ap found e))
+  walked-rest : (left i : ℕ) → walk next fits end (suc left) i ≡ none → walk next fits end left (next i) ≡ none
+  walked-rest left i e = later-none _ (sym (step-on left i (walked-fits left i e)) ∙ e)
 
-  pub walked-rest : 0 < left → walk b n end left i ≡ none → walk b n end (left - 1) (after-clause b i) ≡ none
-  walked-rest h e = later-none _ (sym (walk-on h (walked-fits h e)) ∙ e)
+  module _ (count i : ℕ) (walked : walk next fits end count i ≡ none) (j : ℕ) where
+    walked-from : j ≤ count → walk next fits end (count - j) (start next i j) ≡ none
+    walked-from h = kept next (λ left k. walk next fits end left k ≡ none) walked-rest count i j h walked
 
--- the clauses, one at a time
-module _ (b : List ℕ) (left i : ℕ) where
-  pub clauses-step : 0 < left → clauses-from b left i ≡ words b (i + 1) (word b i) ∷ clauses-from b (left - 1) (after-clause b i)
-  unfolding clauses-from
-  clauses-step h = let e : left ≡ suc (left - 1) = omega arith in rw (ap (λ (k : ℕ). clauses-from b k i) e)
-
-  pub clauses-over : left ≤ 0 → clauses-from b left i ≡ []
-  unfolding clauses-from
-  clauses-over h = let e : left ≡ 0 = omega arith in rw e
+    -- element j fits
+    pub walked-at : j < count → fits (start next i j) ≡ true
+    walked-at h =
+        let e : count - j ≡ suc (count - (j + 1)) = omega arith in
+        walked-fits (count - (j + 1)) (start next i j) (rw e at (walked-from (omega arith)))

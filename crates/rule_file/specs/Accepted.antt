@@ -1,33 +1,35 @@
--- What checks 1 to 9 leave true of a file: what the layers above are given. That it is exactly the reader's acceptance is proved. Assumes nothing.
+-- What checks 1 to 9 leave true of a file: what the layers above are given. That it is exactly the reader's acceptance
+-- is proved. Assumes nothing.
 use mathlib.Core.Path.{_≡_}
 use mathlib.Core.Bool.{false}
 use mathlib.Core.List.{List}
 use mathlib.Core.Option.{none}
-use Prim.Native.Nat.{ℕ, _+_, _-_, _*_, _%_, _^_, _≤_}
+use Prim.Native.Nat.{ℕ, _+_, _-_, _*_, _%_, _≤_}
 use lib.ListN.{length}
 use Rattle.formula.specs.Formula.{some-of, out-of-range, repeats}
-use Rattle.rule_file.specs.Words.{word-count}
-use Rattle.rule_file.specs.RuleFile.{clause-count, variable-count, prefix-start, stated-count, clauses, prefix, whole}
-use Rattle.rule_file.specs.Reader.{walk, malformed}
+use Rattle.rule_file.specs.Limits.{max-bytes, rule-trailer, max-variables, max-clauses, max-whole}
+use Rattle.rule_file.specs.Words.{word-count, stated-count}
+use Rattle.rule_file.specs.RuleFile.{clause-count, variable-count, prefix-start, clauses, prefix, whole}
+use Rattle.rule_file.specs.Reader.{walk-clauses, malformed}
 use Rattle.rule_file.specs.declared.Header.{Header}
 
--- a length that check 1 passes
-pub record Length (b : List ℕ) : Type 0 where
+-- a length that is not wrong-length
+pub record Length (least : ℕ) (b : List ℕ) : Type 0 where
   pub whole-words : length b % 4 ≡ 0
-  pub least : 16 ≤ length b
-  pub most : length b ≤ 65536
+  pub at-least : least ≤ length b
+  pub at-most : length b ≤ max-bytes
 
 pub record Accepted (b : List ℕ) : Type 0 where
-  pub right-length : Length b
+  pub right-length : Length rule-trailer b
   pub right-count : stated-count b ≡ word-count b
-  pub few-variables : variable-count b ≤ 32
-  pub few-clauses : clause-count b ≤ 1024
+  pub few-variables : variable-count b ≤ max-variables
+  pub few-clauses : clause-count b ≤ max-clauses
   pub prefix-ends : prefix-start b + 2 * variable-count b ≡ word-count b - 4
-  pub walked : walk b (variable-count b) (prefix-start b) (clause-count b) 0 ≡ none
+  pub walked : walk-clauses b (variable-count b) (prefix-start b) (clause-count b) 0 ≡ none
   pub in-range : some-of (out-of-range (variable-count b)) (clauses b) ≡ false
   pub no-repeats : some-of repeats (clauses b) ≡ false
   pub well-formed : some-of malformed (prefix b) ≡ false
-  pub bounded : whole b ≤ 2 ^ 60
+  pub bounded : whole b ≤ max-whole
 
 -- n, m, the prefix's start and the whole
 abbrev pub header : List ℕ → Header

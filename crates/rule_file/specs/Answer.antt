@@ -1,28 +1,35 @@
--- What an operation answers: a refusal's number, with the place where document 01 names one, or the values. Assumes nothing.
-use Prim.Native.Nat.{ℕ, suc}
+-- What an operation answers: a refusal, with its number and the place where document 01 names one, or the values.
+-- Assumes nothing.
+use Prim.Native.Nat.{ℕ}
 use mathlib.Core.Bool.{Bool, true, false}
 use mathlib.Core.Option.{Option, none, some}
+use Rattle.rule_file.specs.declared.Refusal.{Refusal}
+use Rattle.rule_file.specs.declared.Refusal.the-variants as refusal
 
 pub data Answer (A : Type 0) : Type 0 where
-  refused : ℕ → Option ℕ → Answer A
+  refused : Refusal → Answer A
   answer : A → Answer A
 
 -- refuses by number k where the check fails, else goes on
 abbrev pub refuse-if : {A : Type 0} → Bool → ℕ → Answer A → Answer A
-refuse-if true k rest = refused k none
+refuse-if true k rest = refused (refusal.Alone k)
 refuse-if false k rest = rest
 
--- whether a search found a place
-abbrev pub found : Option ℕ → Bool
-found none = false
-found (some i) = true
-
--- a place counted from one element earlier
-abbrev pub later : Option ℕ → Option ℕ
-later none = none
-later (some i) = some (suc i)
+-- refuses by number k with the place that is found, else goes on
+abbrev pub refuse-at : {A : Type 0} → Option ℕ → ℕ → Answer A → Answer A
+refuse-at none k rest = rest
+refuse-at (some i) k rest = refused (refusal.At k i)
 
 -- goes on from the values, and passes a refusal on
 abbrev pub and-then : {A B : Type 0} → Answer A → (A → Answer B) → Answer B
-and-then (refused k place) f = refused k place
+and-then (refused r) f = refused r
 and-then (answer x) f = f x
+
+-- document 01's number of a refusal, and its place
+abbrev pub number-of : Refusal → ℕ
+number-of (refusal.Alone k) = k
+number-of (refusal.At k i) = k
+
+abbrev pub place-of : Refusal → Option ℕ
+place-of (refusal.Alone k) = none
+place-of (refusal.At k i) = some i

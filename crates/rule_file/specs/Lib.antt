@@ -1,6 +1,13 @@
--- Rule files: the words of a file, what stands in them, and the reader's answer.
+-- Rule files: limits, the words of a file, elements that stand one after another in it, what stands in a rule file, the
+-- code's quantifiers, what an operation answers, the reader's answer, what an accepted file holds, and its clauses as
+-- masks.
+pub mod Limits
+pub mod Walk
 pub mod Words
 pub mod RuleFile
+pub mod Quantifiers
 pub mod Answer
 pub mod Reader
+pub mod Checks
 pub mod Accepted
+pub mod Masks

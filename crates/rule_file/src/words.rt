@@ -1,13 +1,17 @@
-// The words of a file of bytes.
+// The words of a file of bytes, and its parts.
+use crate::limits::MAX_BYTES;
 ghost use mathlib.Core.Path.{_≡_};
-ghost use Prim.Native.Nat.{_^_, _<_};
-ghost use Rattle.rule_file.specs.Words.{word, word-count};
+ghost use Prim.Native.Nat.{_+_, _^_, _≤_, _<_};
+ghost use Rattle.formula.specs.Formula.{some-of};
+ghost use Rattle.rule_file.specs.Words.{word, word-count, words, part, wrong-length};
+ghost use Rattle.rule_file.specs.Checks.{between};
 
 // The word at index i, least byte first. Four byte reads in a row compile to one load.
 pub fn word(file: &[u8], i: usize) -> usize
     requires { ⌜ i < word-count (now file) ⌝ }
     ensures { λ r. ⌜ r ≡ word (now (file .entry)) i ⌝ }
     ensures { λ r. ⌜ r < 2 ^ 32 ⌝ }
+    ensures unchanged { λ _. ⌜ now (file .exit) ≡ now (file .entry) ⌝ }
 {
     let at = 4 * i;
     wide(file[at])
@@ -21,4 +25,55 @@ fn wide(byte: u8) -> usize
     ensures { λ r. ⌜ r < 256 ⌝ }
 {
     byte as usize
+}
+
+// The part of the file that holds the k words from index i on; empty where they would leave the file.
+pub fn part(file: &[u8], i: usize, k: usize) -> &[u8]
+    ensures { λ r. ⌜ now r ≡ part (now (file .entry)) i k ⌝ }
+    ensures unchanged { λ _. ⌜ now (file .exit) ≡ now (file .entry) ⌝ }
+{
+    let count = file.len() / 4;
+    if count < i {
+        return &file[..0];
+    }
+    if count - i < k {
+        return &file[..0];
+    }
+    let from = 4 * i;
+    let to = from + 4 * k;
+    &file[from..to]
+}
+
+// Whether the length is not a multiple of 4, under the least or over the longest file's.
+pub fn has_wrong_length(file: &[u8], least: usize) -> bool
+    ensures { λ r. ⌜ r ≡ wrong-length least (now (file .entry)) ⌝ }
+    ensures unchanged { λ _. ⌜ now (file .exit) ≡ now (file .entry) ⌝ }
+{
+    let length = file.len();
+    if length % 4 != 0 {
+        return true;
+    }
+    if length < least {
+        return true;
+    }
+    MAX_BYTES < length
+}
+
+// Whether some word w of the k from index i on has lo ≤ w < hi.
+pub fn some_between(file: &[u8], i: usize, k: usize, lo: usize, hi: usize) -> bool
+    requires { ⌜ i + k ≤ word-count (now file) ⌝ }
+    ensures { λ r. ⌜ r ≡ some-of (between lo hi) (words (now (file .entry)) i k) ⌝ }
+    ensures unchanged { λ _. ⌜ now (file .exit) ≡ now (file .entry) ⌝ }
+{
+    let mut at = i;
+    let mut left = k;
+    while 0 < left {
+        let w = word(file, at);
+        if lo <= w && w < hi {
+            return true;
+        }
+        at += 1;
+        left -= 1;
+    }
+    false
 }

@@ -1,15 +1,23 @@
 // Runs document 01's samples. Standard input is a row of records: the operation (1 read, 2 figure, 3 verdict, 4 cut,
-// 5 check), a 32-bit word; the verdict's two limits, or the cut's level and 0, two words each; the lengths of the rule
-// file and of the derivation, a word each; then the two files. Each record is answered by a line: the refusal's number,
-// with the line of the derivation where one is given, or 0 and the values.
+// 5 check, 6 clause reader), a 32-bit word; the verdict's two limits, or the cut's level and 0, two words each; the
+// lengths of the rule file and of the derivation, a word each; then the two files. Each record is answered by a line:
+// the refusal's number, with the line of the derivation where one is given, or 0 and the values. The clause reader's
+// values are the length and the literals of each clause, and `none` where no clause is left.
 use bounds::Cutting;
 use bounds::cut;
+use clause_reader::cursor::Cursor;
+use clause_reader::cursor::Step;
+use clause_reader::cursor::clause_at;
+use clause_reader::cursor::start;
 use derivation::Checking;
 use derivation::check;
 use libc::STDIN_FILENO;
 use libc::STDOUT_FILENO;
 use rule_file::Reading;
+use rule_file::Refusal;
+use rule_file::limits::MAX_BYTES;
 use rule_file::read;
+use rule_file::words::part;
 use rule_file::words::word;
 use value::Figuring;
 use value::Judging;
@@ -19,7 +27,7 @@ ghost use Prim.Native.Nat.{_<_};
 ghost use Rattle.io.specs.Counts.{Counts};
 
 // Some bytes more than a file may have, so that the operations see what is too long.
-const ROOM: usize = 65544;
+const ROOM: usize = MAX_BYTES + 8;
 
 fn put(text: &[u8]) {
     io::write_all(STDOUT_FILENO, text);
@@ -34,9 +42,20 @@ fn put_value(value: u64) {
     io::print_decimal(STDOUT_FILENO, value);
 }
 
+// The number, and the place that it names.
+fn put_refusal(refusal: Refusal) {
+    match refusal {
+        Refusal::Alone(number) => put_number(number),
+        Refusal::At(number, place) => {
+            put_number(number);
+            put_value(place as u64);
+        }
+    }
+}
+
 fn put_reading(rule: &[u8]) {
     match read(rule) {
-        Reading::Refused(number) => put_number(number),
+        Reading::Refused(refusal) => put_refusal(refusal),
         Reading::Accepted(header) => {
             put_number(0);
             put_value(header.variables as u64);
@@ -49,7 +68,7 @@ fn put_reading(rule: &[u8]) {
 
 fn put_figure(rule: &[u8]) {
     match figure(rule) {
-        Figuring::Refused(number) => put_number(number),
+        Figuring::Refused(refusal) => put_refusal(refusal),
         Figuring::Answered(ratio) => {
             put_number(0);
             put_value(ratio.figure);
@@ -60,7 +79,7 @@ fn put_figure(rule: &[u8]) {
 
 fn put_verdict(rule: &[u8], lo: u64, hi: u64) {
     match verdict(rule, lo, hi) {
-        Judging::Refused(number) => put_number(number),
+        Judging::Refused(refusal) => put_refusal(refusal),
         Judging::Above => put(b"0 above"),
         Judging::Below => put(b"0 below"),
         Judging::Within(figure) => {
@@ -72,7 +91,7 @@ fn put_verdict(rule: &[u8], lo: u64, hi: u64) {
 
 fn put_cut(rule: &[u8], level: u64) {
     match cut(rule, level) {
-        Cutting::Refused(number) => put_number(number),
+        Cutting::Refused(refusal) => put_refusal(refusal),
         Cutting::Answered(bounds) => {
             put_number(0);
             put_value(bounds.lower);
@@ -84,15 +103,60 @@ fn put_cut(rule: &[u8], level: u64) {
 
 fn put_checking<'a>(rule: &'a [u8], derivation: &'a [u8]) {
     match check(rule, derivation) {
-        Checking::Refused(number) => put_number(number),
-        Checking::RefusedAt(number, line) => {
-            put_number(number);
-            put_value(line as u64);
-        }
+        Checking::Refused(refusal) => put_refusal(refusal),
         Checking::Accepted(closing) => {
             put_number(0);
             put_value(closing.value);
             put_value(closing.whole);
+        }
+    }
+}
+
+fn put_literals(clause: &[u8]) {
+    let length = clause.len() / 4;
+    put_value(length as u64);
+    for i in 0..length {
+        put_value(word(clause, i) as u64);
+    }
+}
+
+// What the clause reader gives at a cursor; the cursor after it.
+fn put_step(rule: &[u8], cursor: Cursor) -> Cursor {
+    match clause_at(rule, cursor) {
+        Step::Refused(refusal) => {
+            put_refusal(refusal);
+            cursor
+        }
+        Step::Clause {
+            number: _,
+            start,
+            length,
+            next,
+        } => {
+            put_literals(part(rule, start, length));
+            next
+        }
+        Step::Done => {
+            put(b" none");
+            cursor
+        }
+    }
+}
+
+// As many steps as the file has clauses, and one more, which finds none.
+fn put_clauses(rule: &[u8]) {
+    let mut cursor = start(rule);
+    match cursor {
+        Cursor::Refused(refusal) => put_refusal(refusal),
+        Cursor::At {
+            word: _,
+            number: _,
+            clauses,
+        } => {
+            put_number(0);
+            for _ in 0..=clauses {
+                cursor = put_step(rule, cursor);
+            }
         }
     }
 }
@@ -104,6 +168,7 @@ fn put_answer<'a>(operation: usize, a: u64, b: u64, rule: &'a [u8], derivation: 
         3 => put_verdict(rule, a, b),
         4 => put_cut(rule, a),
         5 => put_checking(rule, derivation),
+        6 => put_clauses(rule),
         _ => put(b"no operation"),
     }
     put(b"\n");

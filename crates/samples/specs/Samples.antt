@@ -1,6 +1,8 @@
--- Document 01's samples P1 to P12 in one list: each a question to an operation, and the answer that it must give. Assumes nothing.
+-- Document 01's samples P1 to P12 in one list: each a question to an operation, and the answer that it must give.
+-- Assumes nothing.
 use mathlib.Core.List.{List, [], _∷_}
-use Prim.Native.Nat.{ℕ, _/_, _%_}
+use Prim.Native.Nat.{ℕ}
+use Rattle.buffer.specs.Bytes.{bytes-of}
 use Rattle.rule_file.specs.Answer.{Answer, answer}
 use Rattle.value.specs.declared.Ratio.{Ratio}
 use Rattle.value.specs.Value.{figure-file, Verdict, above, below, within, verdict-file}
@@ -8,11 +10,6 @@ use Rattle.bounds.specs.declared.Bounds.{Bounds}
 use Rattle.bounds.specs.Cut.{cut-file}
 use Rattle.derivation.specs.declared.Closing.{Closing}
 use Rattle.derivation.specs.Check.{check-file}
-
--- a file's bytes from its 32-bit words, least byte first
-unfoldable pub file : List ℕ → List ℕ
-file [] = []
-file (w ∷ ws) = w % 256 ∷ w / 256 % 256 ∷ w / 65536 % 256 ∷ w / 16777216 ∷ file ws
 
 pub data Question : Type 0 where
   figure : List ℕ → Question
@@ -28,10 +25,10 @@ pub data Outcome : Type 0 where
 
 -- what the operation answers, by the definition that its contract cites
 unfoldable pub ask : Question → Outcome
-ask (figure ws) = figured (figure-file (file ws))
-ask (verdict ws lo hi) = judged (verdict-file (file ws) lo hi)
-ask (cut ws level) = bounded (cut-file (file ws) level)
-ask (check ws ds) = checked (check-file (file ws) (file ds))
+ask (figure ws) = figured (figure-file (bytes-of ws))
+ask (verdict ws lo hi) = judged (verdict-file (bytes-of ws) lo hi)
+ask (cut ws level) = bounded (cut-file (bytes-of ws) level)
+ask (check ws ds) = checked (check-file (bytes-of ws) (bytes-of ds))
 
 -- a figure out of a whole
 abbrev out-of : ℕ → ℕ → Outcome
@@ -45,7 +42,7 @@ abbrev sample : Question → Outcome → Sample
 sample q o = record { question = q; outcome = o }
 
 -- document 01's example file, that of source document 004
-abbrev example : List ℕ
+abbrev pub example : List ℕ
 example = 2 ∷ 0 ∷ 2 ∷ 1 ∷ 3 ∷ 2 ∷ 2 ∷ 4 ∷ 4 ∷ 1 ∷ 0 ∷ 0 ∷ 3 ∷ 7 ∷ 3 ∷ 3 ∷ 8 ∷ 18 ∷ []
 
 -- its derivation

@@ -4,7 +4,7 @@ use mathlib.Core.Option.{Option, none, some}
 use Prim.Native.Nat.{ℕ}
 use lib.ListN.{set}
 use lib.Seq.{sets}
-use Rattle.rule_file.specs.Answer.{Answer, refused, answer}
+use Rattle.rule_file.specs.Answer.{Answer, refused, answer, number-of, place-of}
 use Rattle.rule_file.specs.declared.Header.{Header}
 use Rattle.value.specs.declared.Ratio.{Ratio}
 use Rattle.value.specs.Value.{Verdict, above, below, within}
@@ -13,7 +13,7 @@ use Rattle.derivation.specs.declared.Closing.{Closing}
 
 -- 0 for an answer, else document 01's number
 abbrev pub code : {A : Type 0} → Answer A → ℕ
-code (refused k place) = k
+code (refused r) = number-of r
 code (answer x) = 0
 
 -- out afterwards: an answer's four numbers; a refusal leaves it, and stores the place alone where document 01 names one
@@ -22,7 +22,7 @@ placed none out = out
 placed (some i) out = set out 0 i
 
 abbrev pub filled : {A : Type 0} → (A → List ℕ) → Answer A → List ℕ → List ℕ
-filled values (refused k place) out = placed place out
+filled values (refused r) out = placed (place-of r) out
 filled values (answer x) out = sets out 0 (values x)
 
 abbrev pub header-values : Header → List ℕ

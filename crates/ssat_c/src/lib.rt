@@ -5,6 +5,7 @@ use bounds::cut;
 use derivation::Checking;
 use derivation::check;
 use rule_file::Reading;
+use rule_file::Refusal;
 use rule_file::read;
 use value::Figuring;
 use value::Judging;
@@ -13,11 +14,12 @@ use value::verdict;
 ghost use mathlib.Core.Path.{_≡_};
 ghost use lib.Seq.{sets};
 ghost use mathlib.Core.List.{[], _∷_};
+ghost use Rattle.rule_file.specs.Answer.{number-of, place-of};
 ghost use Rattle.rule_file.specs.Reader.{read-file};
 ghost use Rattle.value.specs.Value.{figure-file, verdict-file};
 ghost use Rattle.bounds.specs.Cut.{cut-file};
 ghost use Rattle.derivation.specs.Check.{check-file};
-ghost use Rattle.ssat_c.specs.Interface.{code, filled, header-values, ratio-values, verdict-values, bounds-values, closing-values};
+ghost use Rattle.ssat_c.specs.Interface.{code, placed, filled, header-values, ratio-values, verdict-values, bounds-values, closing-values};
 
 // An answer fills out and returns 0.
 fn fill(out: &mut [u64; 4], a: u64, b: u64, c: u64, d: u64) -> u32
@@ -31,6 +33,20 @@ fn fill(out: &mut [u64; 4], a: u64, b: u64, c: u64, d: u64) -> u32
     0
 }
 
+// A refusal returns its number, and stores its place where it names one; all else in out stays.
+fn refuse(out: &mut [u64; 4], refusal: Refusal) -> u32
+    ensures { λ r. ⌜ r ≡ number-of refusal ⌝ }
+    ensures { λ _. ⌜ now (out .exit) ≡ placed (place-of refusal) (now (out .entry)) ⌝ }
+{
+    match refusal {
+        Refusal::Alone(number) => number,
+        Refusal::At(number, place) => {
+            out[0] = place as u64;
+            number
+        }
+    }
+}
+
 // n, m, prefix start, whole.
 #[no_mangle]
 pub extern "C" fn ssat_read(rule: &[u8], out: &mut [u64; 4]) -> u32
@@ -39,7 +55,7 @@ pub extern "C" fn ssat_read(rule: &[u8], out: &mut [u64; 4]) -> u32
     ensures unchanged { λ _. ⌜ now (rule .exit) ≡ now (rule .entry) ⌝ }
 {
     match read(rule) {
-        Reading::Refused(number) => number,
+        Reading::Refused(refusal) => refuse(out, refusal),
         Reading::Accepted(h) => fill(
             out,
             h.variables as u64,
@@ -58,7 +74,7 @@ pub extern "C" fn ssat_figure(rule: &[u8], out: &mut [u64; 4]) -> u32
     ensures unchanged { λ _. ⌜ now (rule .exit) ≡ now (rule .entry) ⌝ }
 {
     match figure(rule) {
-        Figuring::Refused(number) => number,
+        Figuring::Refused(refusal) => refuse(out, refusal),
         Figuring::Answered(x) => fill(out, x.figure, x.whole, 0, 0),
     }
 }
@@ -71,7 +87,7 @@ pub extern "C" fn ssat_verdict(rule: &[u8], lo: u64, hi: u64, out: &mut [u64; 4]
     ensures unchanged { λ _. ⌜ now (rule .exit) ≡ now (rule .entry) ⌝ }
 {
     match verdict(rule, lo, hi) {
-        Judging::Refused(number) => number,
+        Judging::Refused(refusal) => refuse(out, refusal),
         Judging::Above => fill(out, 1, 0, 0, 0),
         Judging::Below => fill(out, 2, 0, 0, 0),
         Judging::Within(figure) => fill(out, 0, figure, 0, 0),
@@ -86,12 +102,12 @@ pub extern "C" fn ssat_cut(rule: &[u8], level: u64, out: &mut [u64; 4]) -> u32
     ensures unchanged { λ _. ⌜ now (rule .exit) ≡ now (rule .entry) ⌝ }
 {
     match cut(rule, level) {
-        Cutting::Refused(number) => number,
+        Cutting::Refused(refusal) => refuse(out, refusal),
         Cutting::Answered(x) => fill(out, x.lower, x.upper, x.undetermined, 0),
     }
 }
 
-// Closing value, whole. A refusal of a line stores the line's number.
+// Closing value, whole.
 #[no_mangle]
 pub extern "C" fn ssat_check<'a>(rule: &'a [u8], derivation: &'a [u8], out: &mut [u64; 4]) -> u32
     ensures returned { λ r. ⌜ r ≡ code (check-file (now (rule .entry)) (now (derivation .entry))) ⌝ }
@@ -100,11 +116,7 @@ pub extern "C" fn ssat_check<'a>(rule: &'a [u8], derivation: &'a [u8], out: &mut
     ensures derivation_unchanged { λ _. ⌜ now (derivation .exit) ≡ now (derivation .entry) ⌝ }
 {
     match check(rule, derivation) {
-        Checking::Refused(number) => number,
-        Checking::RefusedAt(number, line) => {
-            out[0] = line as u64;
-            number
-        }
+        Checking::Refused(refusal) => refuse(out, refusal),
         Checking::Accepted(x) => fill(out, x.value, x.whole, 0, 0),
     }
 }

@@ -1,4 +1,4 @@
-//! The five operations, as the C interface answers them.
+//! The five operations, as the C interface answers them, and the clause reader, which it has not.
 
 use crate::derivation;
 use crate::enumerate;
@@ -58,7 +58,7 @@ impl<'a> Solver<'a> {
         }
     }
 
-    /// A bound on the nodes of the plain tree that stops at met and lost nodes; 0 for a refused
+    /// A bound on the nodes of the plain tree that stops at decided nodes; 0 for a refused
     /// file.
     pub fn nodes(&self) -> u128 {
         match (self.rules, &self.tables) {
@@ -131,4 +131,18 @@ impl<'a> Solver<'a> {
 /// Reads a rule file and answers one operation; for tests and samples.
 pub fn answer(rule: &[u8], operation: impl FnOnce(&Solver) -> Answer) -> Answer {
     operation(&Solver::new(&rules::read(rule)))
+}
+
+/// What the clause reader gives: for each clause in order its length, then its literals as they stand.
+pub fn clauses(rule: &[u8]) -> Answer {
+    let clauses = match rules::clauses(rule) {
+        Ok(clauses) => clauses,
+        Err(number) => return Answer::refused(number),
+    };
+    let mut numbers = Vec::new();
+    for clause in &clauses {
+        numbers.push(clause.len() as u64);
+        numbers.extend(clause.iter().map(|&literal| u64::from(literal)));
+    }
+    Answer { code: 0, numbers }
 }

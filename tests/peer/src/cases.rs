@@ -1,7 +1,7 @@
 //! Run samples: a rule file, an operation and the answer that it must give. The program `run_samples` takes them as
-//! records and answers each by a line.
+//! records and answers each by a line; `samples` says the form of both.
 
-use crate::answer::{answer, Answer, Solver};
+use crate::answer::{answer, clauses, Answer, Solver};
 use crate::to_bytes;
 
 #[derive(Clone, Debug, PartialEq, Eq)]
@@ -11,6 +11,8 @@ pub enum Operation {
     Verdict(u64, u64),
     Cut(u64),
     Check(Vec<u8>),
+    /// The clause reader, from clause 0 until none is left.
+    Clauses,
 }
 
 #[derive(Clone, Debug, PartialEq, Eq)]
@@ -30,10 +32,11 @@ impl Case {
             Operation::Verdict(lo, hi) => solver.verdict(*lo, *hi),
             Operation::Cut(level) => solver.cut(*level),
             Operation::Check(derivation) => solver.check(derivation),
+            Operation::Clauses => clauses(&self.rule),
         })
     }
 
-    /// The case as a record of the program `run_samples`, which says the form.
+    /// The case as a record of the program `run_samples`.
     pub fn record(&self) -> Vec<u8> {
         let (operation, a, b, derivation): (u32, u64, u64, &[u8]) = match &self.operation {
             Operation::Read => (1, 0, 0, &[]),
@@ -41,6 +44,7 @@ impl Case {
             Operation::Verdict(lo, hi) => (3, *lo, *hi, &[]),
             Operation::Cut(level) => (4, *level, 0, &[]),
             Operation::Check(derivation) => (5, 0, 0, derivation),
+            Operation::Clauses => (6, 0, 0, &[]),
         };
         let mut record = to_bytes(&[operation]);
         record.extend([a, b].iter().flat_map(|number| number.to_le_bytes()));
@@ -53,11 +57,13 @@ impl Case {
     /// The line that `run_samples` must write for it.
     pub fn line(&self) -> String {
         let Answer { code, numbers } = &self.expected;
+        let all = numbers.iter().fold(code.to_string(), |line, number| format!("{line} {number}"));
         match (&self.operation, &numbers[..]) {
             (Operation::Verdict(..), [1, _]) => format!("{code} above\n"),
             (Operation::Verdict(..), [2, _]) => format!("{code} below\n"),
             (Operation::Verdict(..), [_, figure]) => format!("{code} within {figure}\n"),
-            _ => numbers.iter().fold(code.to_string(), |line, number| format!("{line} {number}")) + "\n",
+            (Operation::Clauses, _) if *code == 0 => all + " none\n",
+            _ => all + "\n",
         }
     }
 }

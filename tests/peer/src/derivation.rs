@@ -35,7 +35,7 @@ type Known = (Literals, u128);
 /// The clause that a reference names, if it names one.
 fn named(reference: u32, rules: &Rules, lines: &[Known]) -> Option<Known> {
     let number = (reference / 2) as usize;
-    if reference % 2 == 0 {
+    if reference.is_multiple_of(2) {
         rules.clauses.get(number).map(|clause| (*clause, 0))
     } else {
         lines.get(number).copied()
@@ -44,7 +44,7 @@ fn named(reference: u32, rules: &Rules, lines: &[Known]) -> Option<Known> {
 
 /// Checks a derivation over an accepted rule file: the closing value, or the refusal.
 pub fn check(rules: &Rules, bytes: &[u8]) -> Result<u128, Fault> {
-    if bytes.len() % 4 != 0 || bytes.len() < 12 || bytes.len() > 65_536 {
+    if !bytes.len().is_multiple_of(4) || bytes.len() < 12 || bytes.len() > 65_536 {
         return Err((13, None));
     }
     let words = to_words(bytes);
@@ -90,8 +90,8 @@ pub fn check(rules: &Rules, bytes: &[u8]) -> Result<u128, Fault> {
 fn judge(rules: &Rules, set: Literals, line: &Line, known: &[Known]) -> Result<u128, u32> {
     let Some([v, on_true, on_false]) = line.resolved else {
         let against = opposites(set);
-        let met = rules.clauses.iter().all(|clause| clause & against != 0);
-        return if met { Ok(rules.rest[level(set)]) } else { Err(17) };
+        let blocking = rules.clauses.iter().all(|clause| clause & against != 0);
+        return if blocking { Ok(rules.rest[level(set)]) } else { Err(17) };
     };
     let v = v as usize;
     if v >= rules.n() {

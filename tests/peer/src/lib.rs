@@ -1,7 +1,7 @@
 //! A second SSAT solver, written apart from the proved one and not proved.
 //!
-//! It reads the same files and answers the same five operations, by its own methods, so that
-//! the two can be compared. A set of literals is kept as a 64-bit mask (bit `l` for literal
+//! It reads the same files and answers the same five operations and the clause reader, by its own
+//! methods, so that the two can be compared. A set of literals is kept as a 64-bit mask (bit `l` for literal
 //! `l`): with at most 32 variables every literal is under 64.
 //!
 //! The library links `libssat_c.a` from the directory in SSAT_LIB_DIR (a relative one is taken

@@ -54,7 +54,7 @@ impl Rules {
 
 /// Reads a rule file or gives the number of its refusal.
 pub fn read(bytes: &[u8]) -> Result<Rules, u32> {
-    if bytes.len() % 4 != 0 || bytes.len() < 16 || bytes.len() > 65_536 {
+    if !bytes.len().is_multiple_of(4) || bytes.len() < 16 || bytes.len() > 65_536 {
         return Err(1);
     }
     let words = to_words(bytes);
@@ -130,4 +130,16 @@ pub fn set_of(list: &[u32]) -> Option<Literals> {
         set |= 1u64 << literal;
     }
     Some(set)
+}
+
+/// The clauses of a rule file in order, each with its literals as they stand, or the number of the file's refusal.
+pub fn clauses(bytes: &[u8]) -> Result<Vec<Vec<u32>>, u32> {
+    let rules = read(bytes)?;
+    let mut words = to_words(bytes).into_iter();
+    let mut clauses = Vec::new();
+    for _ in &rules.clauses {
+        let k = words.next().expect("a clause begins before the prefix");
+        clauses.push(words.by_ref().take(k as usize).collect());
+    }
+    Ok(clauses)
 }

@@ -1,5 +1,31 @@
 //! Document 01's run samples, each with the answer that its rules give, derived by hand.
 //! The tests hold the peer and the proved solver to these answers.
+//!
+//! The program `run_samples` reads them from its standard input as records, one after another. A record is a head of
+//! seven 32-bit words, least byte first, and two files:
+//!
+//! | Words | Content |
+//! |---|---|
+//! | 0 | the operation: 1 read, 2 figure, 3 verdict, 4 cut, 5 check, 6 clauses |
+//! | 1, 2 | the verdict's lo or the cut's level, low word first; else 0 |
+//! | 3, 4 | the verdict's hi; else 0 |
+//! | 5 | the length of the rule file in bytes |
+//! | 6 | the length of the derivation in bytes; 0 for any operation but 5 |
+//!
+//! Then come the bytes of the rule file and those of the derivation. It answers each record by a line, closed by a line
+//! feed. A refusal is its number, with a blank and the line of the derivation where one is given. An answer begins with
+//! `0`; each further word or number stands after one blank, numbers in decimal:
+//!
+//! | Operation | Line |
+//! |---|---|
+//! | 1 | `0 n m start whole` |
+//! | 2 | `0 figure whole` |
+//! | 3 | `0 above`, `0 below` or `0 within figure` |
+//! | 4 | `0 lower upper open` |
+//! | 5 | `0 value whole` |
+//! | 6 | `0`, then for each clause in order its length and its literals as they stand, then `none` |
+//!
+//! So 6 gives `0 2 0 2 1 3 2 2 4 none` for clauses {0, 2}, {3}, {2, 4}, and `0 none` where there are no clauses.
 
 use crate::answer::Answer;
 use crate::cases::{Case, Operation};
@@ -34,6 +60,10 @@ impl List {
         self.add(name, &rule.bytes(), Operation::Figure, 0, &[value, whole]);
     }
 
+    fn clauses(&mut self, name: &str, rule: &RuleDraft, numbers: &[u64]) {
+        self.add(name, &rule.bytes(), Operation::Clauses, 0, numbers);
+    }
+
     fn check(&mut self, name: &str, rule: &RuleDraft, words: &[u32], code: u32, numbers: &[u64]) {
         self.add(name, &rule.bytes(), Operation::Check(to_bytes(words)), code, numbers);
     }
@@ -47,6 +77,7 @@ pub fn cases() -> Vec<Case> {
     wholes(&mut list);
     levels_and_limits(&mut list);
     derivations(&mut list);
+    clauses(&mut list);
     list.0
 }
 
@@ -284,20 +315,20 @@ fn levels_and_limits(list: &mut List) {
         list.add(name, &file, Operation::Cut(level), 12, &[]);
     }
     let none = RuleDraft::new(&[], &[]).bytes();
-    let lost = RuleDraft::new(&[&[]], &[]).bytes();
-    list.add("level-0-of-0-met", &none, Operation::Cut(0), 0, &[1, 1, 0]);
-    list.add("level-0-of-0-lost", &lost, Operation::Cut(0), 0, &[0, 0, 0]);
+    let falsified = RuleDraft::new(&[&[]], &[]).bytes();
+    list.add("level-0-of-0-satisfied", &none, Operation::Cut(0), 0, &[1, 1, 0]);
+    list.add("level-0-of-0-falsified", &falsified, Operation::Cut(0), 0, &[0, 0, 0]);
     list.add("level-1-of-0", &none, Operation::Cut(1), 12, &[]);
     // Clauses {0} and {62} over 32 existential variables.
     let last = RuleDraft { clauses: vec![vec![0], vec![62]], prefix: vec![[0, 0]; 32] };
     list.add("level-1-of-32", &last.bytes(), Operation::Cut(1), 0, &[0, 1, 1]);
     list.add("level-33-of-32", &last.bytes(), Operation::Cut(33), 12, &[]);
-    // Met where variable 0 is true, weight 3 of 5, else open: all three numbers differ.
+    // Satisfied where variable 0 is true, weight 3 of 5, else undetermined: all three numbers differ.
     let mixed = RuleDraft::new(&[&[0, 2], &[0, 4]], &[[3, 2], [0, 0], [1, 1]]);
     list.add("cut-three-numbers", &mixed.bytes(), Operation::Cut(1), 0, &[6, 10, 4]);
-    // An existential choice between a met node and an open one: all three numbers are the whole.
+    // An existential choice between a satisfied node and an undetermined one: all three numbers are the whole.
     let choice = RuleDraft::new(&[&[0, 2]], &[[0, 0], [1, 1]]);
-    list.add("cut-met-beside-open", &choice.bytes(), Operation::Cut(1), 0, &[2, 2, 2]);
+    list.add("cut-satisfied-beside-undetermined", &choice.bytes(), Operation::Cut(1), 0, &[2, 2, 2]);
 }
 
 /// Each of 13 to 21 on both sides of its border.
@@ -310,18 +341,18 @@ fn derivations(list: &mut List) {
     let accepted: &[u64] = &[12, 50];
     let one_line = [1, 0, 1, 0, 1, 1, 7];
     let none = RuleDraft::new(&[], &[]);
-    let lost = RuleDraft::new(&[&[]], &[]);
+    let falsified = RuleDraft::new(&[&[]], &[]);
 
     // 13: length. The empty derivation has 12 bytes.
-    list.check("empty-derivation", &lost, &[0, 0, 3], 0, &[0, 1]);
+    list.check("empty-derivation", &falsified, &[0, 0, 3], 0, &[0, 1]);
     list.check("empty-derivation-of-sample", &rule, &[0, 0, 3], 21, &[]);
     list.check("no-clause-no-line", &none, &[0, 0, 3], 21, &[]);
-    list.check("steps-length-8", &lost, &[0, 2], 13, &[]);
-    list.check("steps-length-0", &lost, &[], 13, &[]);
+    list.check("steps-length-8", &falsified, &[0, 2], 13, &[]);
+    list.check("steps-length-0", &falsified, &[], 13, &[]);
     for len in [11, 13, 14, 15] {
         let mut bytes = to_bytes(&[0, 0, 3]);
         bytes.resize(len, 0);
-        list.add(format!("steps-length-{len}"), &lost.bytes(), Operation::Check(bytes), 13, &[]);
+        list.add(format!("steps-length-{len}"), &falsified.bytes(), Operation::Check(bytes), 13, &[]);
     }
     let wide = RuleDraft::new(&[], &[[0, 0]; 13]);
     let line = |k: u32| LineDraft { literals: (0..k).map(|v| 2 * v).collect(), value: 1, resolved: None };
@@ -392,7 +423,7 @@ fn derivations(list: &mut List) {
     }
     list.check("kind-1-opposite", &rule, &with(&words, 4, 4), 17, &[0]);
     list.check("kind-1-opposite-and-value", &rule, &with(&with(&words, 4, 4), 5, 2), 17, &[0]);
-    list.check("kind-1-empty-clause", &lost, &one_line, 17, &[0]);
+    list.check("kind-1-empty-clause", &falsified, &one_line, 17, &[0]);
     // A line that is enough although it leaves variables unset.
     let free = RuleDraft::new(&[&[0, 2], &[0, 5]], &[[1, 2], [1, 1], [1, 1]]);
     // Line {1}, value R(1) = 4; the other side is not written, so nothing closes.
@@ -516,8 +547,50 @@ fn derivations(list: &mut List) {
     list.check("closing-clause-beside", &with_empty, &[0, 0, 3], 21, &[]);
 
     // n = 0.
-    list.check("n-0-met", &none, &one_line, 0, &[1, 1]);
+    list.check("n-0-satisfied", &none, &one_line, 0, &[1, 1]);
     list.check("n-0-value-0", &none, &with(&one_line, 2, 0), 20, &[0]);
     list.check("n-0-literal", &none, &[1, 1, 0, 1, 0, 1, 1, 8], 15, &[0]);
-    list.check("n-0-kind-2", &lost, &[2, 0, 0, 0, 0, 0, 0, 1, 1, 10], 18, &[0]);
+    list.check("n-0-kind-2", &falsified, &[2, 0, 0, 0, 0, 0, 0, 1, 1, 10], 18, &[0]);
+}
+
+/// The clause reader: files that it gives clause by clause, and each of 1 to 9.
+fn clauses(list: &mut List) {
+    let rule = sample().0;
+    list.clauses("clauses-sample", &rule, &[2, 0, 2, 1, 3, 2, 2, 4]);
+    list.clauses("clauses-none", &RuleDraft::new(&[], &[]), &[]);
+    list.clauses("clauses-none-of-32", &RuleDraft::new(&[], &[[0, 0]; 32]), &[]);
+    list.clauses("clauses-empty", &RuleDraft::new(&[&[]], &[]), &[0]);
+    list.clauses("clauses-empty-between", &RuleDraft::new(&[&[0], &[], &[1]], &[[3, 1]]), &[1, 0, 0, 1, 1]);
+    // Literals in the order in which they stand, and one clause twice.
+    let turned = RuleDraft::new(&[&[4, 3, 0], &[0, 2], &[0, 2]], &[[0, 0], [1, 1], [2, 3]]);
+    list.clauses("clauses-turned", &turned, &[3, 4, 3, 0, 2, 0, 2, 2, 0, 2]);
+    // One clause of all variables, falling, every second one as its opposite.
+    let literals = |v: u32| 2 * v + v % 2;
+    let wide = RuleDraft { clauses: vec![(0..32).rev().map(literals).collect()], prefix: vec![[1, 1]; 32] };
+    let numbers: Vec<u64> = [32].into_iter().chain((0..32).rev().map(|v| literals(v).into())).collect();
+    list.clauses("clauses-32-literals", &wide, &numbers);
+    // 1,024 clauses, without literals and with one.
+    let empty = RuleDraft { clauses: vec![Vec::new(); 1_024], prefix: Vec::new() };
+    list.clauses("clauses-1024-empty", &empty, &[0; 1_024]);
+    let short = RuleDraft { clauses: (0..1_024).map(|at| vec![at % 64]).collect(), prefix: vec![[0, 0]; 32] };
+    let numbers: Vec<u64> = (0..1_024).flat_map(|at| [1, at % 64]).collect();
+    list.clauses("clauses-1024-short", &short, &numbers);
+
+    // The sample's words: prefix from word 8, trailer from word 14.
+    let words = rule.words();
+    let thirty_one = RuleDraft::new(&[&[0]], &[[1, 3]; 31]).words();
+    let refused = [
+        words[..3].to_vec(),
+        with(&words, 17, 17),
+        with(&words, 15, 33),
+        with(&words, 16, 7),
+        with(&words, 5, 3),
+        with(&words, 7, 6),
+        with(&words, 2, 1),
+        with(&words, 8, 65_536),
+        thirty_one,
+    ];
+    for (words, code) in refused.iter().zip(1..) {
+        list.add(format!("clauses-refused-{code}"), &to_bytes(words), Operation::Clauses, code, &[]);
+    }
 }

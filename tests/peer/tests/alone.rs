@@ -56,16 +56,16 @@ fn sample_answers() {
 #[test]
 fn proved_samples() {
     let both: &[&[u32]] = &[&[0, 2], &[1, 3]];
-    let list: [(&[&[u32]], &[[u32; 2]], [u128; 2]); 6] = [
-        (&[], &[], [1, 1]),
-        (&[&[]], &[], [0, 1]),
-        (&[&[0]], &[[3, 1]], [3, 4]),
-        (&[&[0]], &[[0, 0]], [1, 1]),
-        (both, &[[1, 1], [0, 0]], [2, 2]),
-        (both, &[[0, 0], [1, 1]], [1, 2]),
+    let list = [
+        (RuleDraft::new(&[], &[]), [1, 1]),
+        (RuleDraft::new(&[&[]], &[]), [0, 1]),
+        (RuleDraft::new(&[&[0]], &[[3, 1]]), [3, 4]),
+        (RuleDraft::new(&[&[0]], &[[0, 0]]), [1, 1]),
+        (RuleDraft::new(both, &[[1, 1], [0, 0]]), [2, 2]),
+        (RuleDraft::new(both, &[[0, 0], [1, 1]]), [1, 2]),
     ];
-    for (clauses, prefix, [value, whole]) in list {
-        let rules = rules_of(&RuleDraft::new(clauses, prefix));
+    for (draft, [value, whole]) in list {
+        let rules = rules_of(&draft);
         assert_eq!(rules.whole(), whole);
         assert_eq!(enumerate::value(&rules), value);
         assert_eq!(Tables::new(&rules).value(), value);

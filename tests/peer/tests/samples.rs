@@ -29,6 +29,7 @@ fn every_number() {
     }
 }
 
+/// The proved solver through its C interface, which has no clause reader: the program `run_samples` alone runs that.
 #[cfg(not(feature = "no-ffi"))]
 #[test]
 fn library() {
@@ -47,6 +48,7 @@ fn library() {
                     library.lend_derivation(derivation, place);
                     library.check()
                 }
+                Operation::Clauses => continue,
             };
             assert_eq!(got, (case.expected.code, case.expected.out(BEFORE)), "{}", case.name);
         }

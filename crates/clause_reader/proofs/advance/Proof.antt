@@ -1,5 +1,7 @@
--- `advance` meets its contract: a walk of its MIR, by hand. The reader is taken apart, `advanced` is called on its file, its cursor and the count, and a reader is made anew of the file and the cursor that it gives.
--- The reader is Copy: what its fields own is lent to the callee; once more it is what the result owns, with the new cursor in the old one's place; and it is kept whole for the exit. Assumes nothing.
+-- `advance` meets its contract: a walk of its MIR, by hand. The reader is taken apart, `advanced` is called on its
+-- file, its cursor and the count, and a reader is made anew of the file and the cursor that it gives. The reader is
+-- Copy: what its fields own is lent to the callee; once more it is what the result owns, with the new cursor in the old
+-- one's place; and it is kept whole for the exit. Assumes nothing.
 use mathlib.Core.Path.{_≡_, refl}
 use Prim.Native.Nat.{ℕ, _<_, _^_}
 use mathlib.Core.List.{[], _∷_}
@@ -69,8 +71,8 @@ module _ {M : Type 1} (𝓤 : URA M) (H : Heap 𝓤) (A : Atoms 𝓤) (W : Given
   abbrev at : Vals advance.signature (κ, tt)
   at = (mach ∷ [], (vint w64 n ∷ [], tt))
 
-  abbrev found : Cursor
-  found = def.advance (now (d .rule)) n (d .cursor)
+  abbrev Says : Cursor → Type 0
+  Says c = def.placing c ≡ def.advance-file (now (d .rule)) n (def.placing (d .cursor))
 
   abbrev made : Cursor → ClauseReader
   made c = record { rule = d .rule; cursor = c }
@@ -99,10 +101,10 @@ module _ {M : Type 1} (𝓤 : URA M) (H : Heap 𝓤) (A : Atoms 𝓤) (W : Given
       move ! (2 ∷ 0 ∷ []) $ use2 W (raw (Advanced 𝓤 H A mem run .pre to)) asked $ frame ! $ done !
 
   -- what the callee says of its result
-  said : (c : Cursor) → ent 𝓤 (ensured 𝓤 H A advanced.ended (advanced.clauses 𝓤 H A mem run) (κ, tt) (d .rule, (d .cursor, (n, tt))) tt c) (fact 𝓤 (c ≡ found))
-  said c = exE 𝓤 _ (λ ws. via 𝓤 _ (snd∗ 𝓤 (sem 𝓤 H A (lasts advanced.ended (κ, tt) (d .rule, (d .cursor, (n, tt))) ws)) _) (fst∗ 𝓤 (fact 𝓤 (c ≡ found)) (fact 𝓤 (now (d .rule) ≡ now (d .rule)))))
+  said : (c : Cursor) → ent 𝓤 (ensured 𝓤 H A advanced.ended (advanced.clauses 𝓤 H A mem run) (κ, tt) (d .rule, (d .cursor, (n, tt))) tt c) (fact 𝓤 (Says c))
+  said c = exE 𝓤 _ (λ ws. via 𝓤 _ (snd∗ 𝓤 (sem 𝓤 H A (lasts advanced.ended (κ, tt) (d .rule, (d .cursor, (n, tt))) ws)) _) (fst∗ 𝓤 (fact 𝓤 (Says c)) (fact 𝓤 (now (d .rule) ≡ now (d .rule)))))
 
-  exits : (c : Cursor) → c ≡ found → ent 𝓤 (⋆ 𝓤 H A (‵ (Cur.the-row .own c (cursor-val c ∷ [])) ∷ (‵ (flft κ q) ⊛ ‵ ftrue) ∷ ‵ (Own κ d) ∷ [])) (Post (reader-val κ (made c)))
+  exits : (c : Cursor) → Says c → ent 𝓤 (⋆ 𝓤 H A (‵ (Cur.the-row .own c (cursor-val c ∷ [])) ∷ (‵ (flft κ q) ⊛ ‵ ftrue) ∷ ‵ (Own κ d) ∷ [])) (Post (reader-val κ (made c)))
   exits c e =
       qed W (‵ (Cur.the-row .own c (cursor-val c ∷ [])) ∷ (‵ (flft κ q) ⊛ ‵ ftrue) ∷ ‵ (Own κ d) ∷ []) ∵
       suffices ! _ (ends-at 𝓤 H A advance.ended stayed (advance.clauses 𝓤 H A mem run) W (((κ, tt), (q, tt), tt, (d, (n, tt)), at), tt) (reader-val κ (made c)) (made c) (tt, (tt, tt)) (tt, (tt, tt))) $ says-both ! (refl, e) refl $
@@ -122,8 +124,9 @@ module _ {M : Type 1} (𝓤 : URA M) (H : Heap 𝓤) (A : Atoms 𝓤) (W : Given
         move ! (14 ∷ []) $ use1 W (raw (Advanced 𝓤 H A mem run .pre to) ⊛ ‵ (Own κ d)) goes $ split ! $
         calls-at ! fm (Advanced 𝓤 H A mem run) known to (and-then ! (load ! (from ! (stop !)) (look ! 4 refl)) (and-then ! (load ! (from ! (stop !)) (look ! 2 refl)) (and-then ! (load ! (from ! (stop !)) (look ! 10 refl)) (no-more !)))) (λ u.
         use1 W (later (some (λ (c : Cursor). ((‵ (flft κ q) ⊛ ‵ ftrue) ⊛ ‵ (Cur.the-row .own c (u ∷ []))) ⊛ raw (ensured 𝓤 H A advanced.ended (advanced.clauses 𝓤 H A mem run) (κ, tt) (d .rule, (d .cursor, (n, tt))) tt c)))) (id⊢ 𝓤 _) $ await ! tt $ pick ! (λ c.
-        split ! $ move ! (1 ∷ []) $ use1 W (raw (fact 𝓤 (c ≡ found))) (said c) $ heard ! (c ≡ found) (λ e. split ! $ move ! (1 ∷ []) $
-        -- [what the cursor owns; the token; what the reader owns; _6; …; _5; …; room for _4; …; _3; …; _2; …; _1; …; room for _0; …]
+        split ! $ move ! (1 ∷ []) $ use1 W (raw (fact 𝓤 (Says c))) (said c) $ heard ! (Says c) (λ e. split ! $ move ! (1 ∷ []) $
+        -- [what the cursor owns; the token; what the reader owns; _6; …; _5; …; room for _4; …; _3; …; _2; …; _1; …;
+        -- room for _0; …]
         peeks ! Cur.the-row (Is Cur.the-row) (shows 𝓤 H A Cur.the-row) c (u ∷ []) (λ is-c.
         land ! (from ! (stop !)) (init ! 7 refl (EL.lawful Cur.the-type Cur′.the-laws 𝓤 H A W tt .typed c _ is-c .0)) $
         rewrite ! 0 (λ (w : Val). ‵ (Cur.the-row .own c (w ∷ []))) (is-cursor c u is-c) refl $ rewrite ! 7 (λ (w : Val). ‵ (fat fullShare Cur′.mir l₄ 0 w)) (is-cursor c u is-c) refl $

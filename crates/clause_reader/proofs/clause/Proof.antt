@@ -1,4 +1,5 @@
--- `clause` meets its contract: the reader is taken apart, and `literals_at` is called on its file and its cursor. Assumes nothing.
+-- `clause` meets its contract: the reader is taken apart, and `literals_at` is called on its file and its cursor.
+-- Assumes nothing.
 use mathlib.Core.Path.{_≡_}
 use mir.Syntax.{tyInt, tyRef, w8, imm, named}
 use contract.Running.{givenOf, tables, tablesOf}
@@ -11,7 +12,7 @@ use denote.Signature.{Slot, plain}
 use denote.Slice.{sliceTy, shr-slice-lawful}
 use denote.Triple.Spec.{tripleOf}
 use denote.Triple.Table.{entered, cited}
-use Rattle.clause_reader.specs.Cursor.{clause-at, literals-of}
+use Rattle.clause_reader.specs.Cursor.{clause-file, clause-bytes, placing}
 use Rattle.clause_reader.specs.declared.cursor.Cursor.{Cursor}
 use Rattle.clause_reader.proofs.Apart.{Callee, apart-meets}
 use Rattle.clause_reader.proofs.cursor.literals_at.Symbol as literals-at-def
@@ -26,7 +27,7 @@ abbrev result : Slot 1
 result = SliceRefOf (0 ∷ []) tt (plain (λ _. u8)) (λ _. tt)
 
 abbrev Says : RefT (List ℕ) → Cursor → Lfts 1 → RefT (List ℕ) → Type 0
-Says s c κs r = now r ≡ literals-of (now s) (clause-at (now s) c)
+Says s c κs r = now r ≡ clause-bytes (now s) (clause-file (now s) (placing c))
 
 pub clause-spec : {M : Type 1} → stated.statement M
 unfolding code.routine tablesOf

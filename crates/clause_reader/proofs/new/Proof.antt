@@ -1,5 +1,6 @@
--- `new` meets its contract: a walk of its MIR, by hand. `start` is called on the file, and a reader is made of the file and the cursor that it gives.
--- A `&[u8]` is Copy: what it owns is had three times, for the call, for the exit and inside the result. Assumes nothing.
+-- `new` meets its contract: a walk of its MIR, by hand. `start` is called on the file, and a reader is made of the file
+-- and the cursor that it gives. A `&[u8]` is Copy: what it owns is had three times, for the call, for the exit and
+-- inside the result. Assumes nothing.
 use mathlib.Core.Path.{_≡_, refl}
 use Prim.Native.Nat.{ℕ}
 use mathlib.Core.List.{List, [], _∷_}
@@ -83,10 +84,10 @@ module _ {M : Type 1} (𝓤 : URA M) (H : Heap 𝓤) (A : Atoms 𝓤) (W : Given
       move ! (0 ∷ 2 ∷ []) $ fjoin ! $ move ! (2 ∷ 0 ∷ []) $ use2 W (raw (Start 𝓤 H A mem run .pre to)) (qed W ((‵ (flft κ q) ⊛ ‵ ftrue) ∷ ‵ (owns (ShrSlice (named 0) κ u8 ∷ []) (s, tt) (v ∷ [], tt)) ∷ []) ∵ join ! $ frame ! $ done !) $ frame ! $ done !
 
   -- what the callee says of its result
-  said : (c : Cursor) → ent 𝓤 (ensured 𝓤 H A start.ended (start.clauses 𝓤 H A mem run) (κ, tt) (s, tt) tt c) (fact 𝓤 (c ≡ def.start (now s)))
-  said c = exE 𝓤 _ (λ ws. via 𝓤 _ (snd∗ 𝓤 (sem 𝓤 H A (lasts start.ended (κ, tt) (s, tt) ws)) _) (fst∗ 𝓤 (fact 𝓤 (c ≡ def.start (now s))) (fact 𝓤 (now s ≡ now s))))
+  said : (c : Cursor) → ent 𝓤 (ensured 𝓤 H A start.ended (start.clauses 𝓤 H A mem run) (κ, tt) (s, tt) tt c) (fact 𝓤 (def.placing c ≡ def.start-file (now s)))
+  said c = exE 𝓤 _ (λ ws. via 𝓤 _ (snd∗ 𝓤 (sem 𝓤 H A (lasts start.ended (κ, tt) (s, tt) ws)) _) (fst∗ 𝓤 (fact 𝓤 (def.placing c ≡ def.start-file (now s))) (fact 𝓤 (now s ≡ now s))))
 
-  exits : (c : Cursor) → c ≡ def.start (now s) → ent 𝓤 (⋆ 𝓤 H A (‵ (Cur.the-row .own c (cursor-val c ∷ [])) ∷ (‵ (flft κ q) ⊛ ‵ ftrue) ∷ ‵ Own ∷ [])) (Post (reader-val κ (made c)))
+  exits : (c : Cursor) → def.placing c ≡ def.start-file (now s) → ent 𝓤 (⋆ 𝓤 H A (‵ (Cur.the-row .own c (cursor-val c ∷ [])) ∷ (‵ (flft κ q) ⊛ ‵ ftrue) ∷ ‵ Own ∷ [])) (Post (reader-val κ (made c)))
   exits c e =
       qed W (‵ (Cur.the-row .own c (cursor-val c ∷ [])) ∷ (‵ (flft κ q) ⊛ ‵ ftrue) ∷ ‵ Own ∷ []) ∵
       suffices ! _ (ends-at 𝓤 H A new.ended stayed (new.clauses 𝓤 H A mem run) W (((κ, tt), (q, tt), tt, (s, tt), (v ∷ [], tt)), tt) (reader-val κ (made c)) (made c) (tt, tt) (tt, tt)) $ says-both ! (refl, e) refl $
@@ -103,7 +104,7 @@ module _ {M : Type 1} (𝓤 : URA M) (H : Heap 𝓤) (A : Atoms 𝓤) (W : Given
         move ! (6 ∷ []) $ use1 W (raw (Start 𝓤 H A mem run .pre to) ⊛ ‵ Own) goes $ split ! $
         calls-at ! fm (Start 𝓤 H A mem run) known to (and-then ! (load ! (from ! (stop !)) (look ! 4 refl)) (no-more !)) (λ u.
         use1 W (later (some (λ (c : Cursor). ((‵ (flft κ q) ⊛ ‵ ftrue) ⊛ ‵ (Cur.the-row .own c (u ∷ []))) ⊛ raw (ensured 𝓤 H A start.ended (start.clauses 𝓤 H A mem run) (κ, tt) (s, tt) tt c)))) (id⊢ 𝓤 _) $ await ! tt $ pick ! (λ c.
-        split ! $ move ! (1 ∷ []) $ use1 W (raw (fact 𝓤 (c ≡ def.start (now s)))) (said c) $ heard ! (c ≡ def.start (now s)) (λ e. split ! $ move ! (1 ∷ []) $
+        split ! $ move ! (1 ∷ []) $ use1 W (raw (fact 𝓤 (def.placing c ≡ def.start-file (now s)))) (said c) $ heard ! (def.placing c ≡ def.start-file (now s)) (λ e. split ! $ move ! (1 ∷ []) $
         -- [what the cursor owns; the token; what the file owns; room for _2; …; _1; …; room for _0; …]
         peeks ! Cur.the-row (Is Cur.the-row) (shows 𝓤 H A Cur.the-row) c (u ∷ []) (λ is.
         land ! (from ! (stop !)) (init ! 3 refl (EL.lawful Cur.the-type Cur′.the-laws 𝓤 H A W tt .typed c _ is .0)) $

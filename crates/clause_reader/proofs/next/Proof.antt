@@ -1,4 +1,5 @@
--- `next` meets its contract: the reader is taken apart, and `clause_at` is called on its file and its cursor. Assumes nothing.
+-- `next` meets its contract: the reader is taken apart, and `clause_at` is called on its file and its cursor. Assumes
+-- nothing.
 use mathlib.Core.Path.{_≡_}
 use contract.Running.{givenOf, tables, tablesOf}
 use Prim.Native.Nat.{ℕ}
@@ -9,7 +10,7 @@ use denote.Signature.{Slot, plain}
 use denote.Enum.Laws as EL
 use denote.Triple.Spec.{tripleOf}
 use denote.Triple.Table.{entered, cited}
-use Rattle.clause_reader.specs.Cursor.{clause-at}
+use Rattle.clause_reader.specs.Cursor.{clause-file, placing, stepping}
 use Rattle.clause_reader.specs.declared.cursor.Cursor.{Cursor}
 use Rattle.clause_reader.specs.declared.cursor.Step.{Step}
 use Rattle.clause_reader.proofs.cursor.Step as S
@@ -27,7 +28,7 @@ abbrev result : Slot 1
 result = plain (λ _. S.the-row)
 
 abbrev Says : RefT (List ℕ) → Cursor → Lfts 1 → Step → Type 0
-Says s c κs r = r ≡ clause-at (now s) c
+Says s c κs r = stepping r ≡ clause-file (now s) (placing c)
 
 pub next-spec : {M : Type 1} → stated.statement M
 unfolding code.routine tablesOf

@@ -1,5 +1,7 @@
--- `nth_clause` meets its contract: a walk of its MIR, by hand. The readers that `new` and `advance` return are held in locals and passed on. All that the proof knows of the three callees is that each meets its contract.
--- In a local MIR erases the lifetime of the reader's type, so its machine value is shown to have the type at `erased`. Assumes nothing.
+-- `nth_clause` meets its contract: a walk of its MIR, by hand. The readers that `new` and `advance` return are held in
+-- locals and passed on. All that the proof knows of the three callees is that each meets its contract. In a local MIR
+-- erases the lifetime of the reader's type, so its machine value is shown to have the type at `erased`. Assumes
+-- nothing.
 use mathlib.Core.Path.{_≡_, refl}
 use Prim.Native.Nat.{ℕ, _<_, _^_}
 use mathlib.Core.List.{List, [], _∷_}
@@ -62,19 +64,19 @@ use Rattle.clause_reader.proofs.nth_clause.Code as code
 
 -- what each callee ensures of its result
 abbrev Made : RefT (List ℕ) → ClauseReader → Type 0
-Made s r = (r .rule ≡ s) × (r .cursor ≡ def.start (now s))
+Made s r = (r .rule ≡ s) × (def.placing (r .cursor) ≡ def.start-file (now s))
 
 abbrev Moved : ClauseReader → ℕ → ClauseReader → Type 0
-Moved r j r′ = (r′ .rule ≡ r .rule) × (r′ .cursor ≡ def.advance (now (r .rule)) j (r .cursor))
+Moved r j r′ = (r′ .rule ≡ r .rule) × (def.placing (r′ .cursor) ≡ def.advance-file (now (r .rule)) j (def.placing (r .cursor)))
 
 abbrev Gives : ClauseReader → Step → Type 0
-Gives r t = t ≡ def.clause-at (now (r .rule)) (r .cursor)
+Gives r t = def.stepping t ≡ def.clause-file (now (r .rule)) (def.placing (r .cursor))
 
 -- and what the three make together
-abbrev found : RefT (List ℕ) → ℕ → Step
-found s j = def.clause-at (now s) (def.advance (now s) j (def.start (now s)))
+abbrev GivesNth : RefT (List ℕ) → ℕ → Step → Type 0
+GivesNth s j t = def.stepping t ≡ def.nth-file (now s) j
 
-joined : (s : RefT (List ℕ)) (j : ℕ) (r r′ : ClauseReader) (t : Step) → Made s r → Moved r j r′ → Gives r′ t → t ≡ found s j
+joined : (s : RefT (List ℕ)) (j : ℕ) (r r′ : ClauseReader) (t : Step) → Made s r → Moved r j r′ → Gives r′ t → GivesNth s j t
 joined s j r r′ t e e′ e″ = cc
 
 abbrev stayed : Stays (nth.ended .signature .params) (nth.ended .kept)
@@ -143,7 +145,7 @@ module _ {M : Type 1} (𝓤 : URA M) (H : Heap 𝓤) (A : Atoms 𝓤) (W : Given
   next-said : (r : ClauseReader) (t : Step) → ent 𝓤 (ensured 𝓤 H A next.ended (next.clauses 𝓤 H A mem run) (κ, tt) (r, tt) tt t) (fact 𝓤 (Gives r t))
   next-said r t = exE 𝓤 _ (λ ws. via 𝓤 _ (snd∗ 𝓤 (sem 𝓤 H A (lasts next.ended (κ, tt) (r, tt) ws)) _) (fst∗ 𝓤 (fact 𝓤 (Gives r t)) (fact 𝓤 (now (r .rule) ≡ now (r .rule)))))
 
-  exits : (t : Step) (u : Val) → t ≡ found s j → ent 𝓤 (⋆ 𝓤 H A (‵ (S.the-row .own t (u ∷ [])) ∷ (‵ (flft κ q) ⊛ ‵ ftrue) ∷ ‵ Own ∷ [])) (Post u)
+  exits : (t : Step) (u : Val) → GivesNth s j t → ent 𝓤 (⋆ 𝓤 H A (‵ (S.the-row .own t (u ∷ [])) ∷ (‵ (flft κ q) ⊛ ‵ ftrue) ∷ ‵ Own ∷ [])) (Post u)
   exits t u e =
       qed W (‵ (S.the-row .own t (u ∷ [])) ∷ (‵ (flft κ q) ⊛ ‵ ftrue) ∷ ‵ Own ∷ []) ∵
       suffices ! _ (ends-at 𝓤 H A nth.ended stayed (nth.clauses 𝓤 H A mem run) W (((κ, tt), (q, tt), tt, (s, (j, tt)), at), tt) u t (tt, (tt, tt)) (tt, (tt, tt))) $ says-both ! e refl $
@@ -158,7 +160,8 @@ module _ {M : Type 1} (𝓤 : URA M) (H : Heap 𝓤) (A : Atoms 𝓤) (W : Given
         calls-at ! fm (New 𝓤 H A mem run) known-new to-new (and-then ! (load ! (from ! (stop !)) (look ! 8 refl)) (no-more !)) (λ u.
         use1 W (later (some (λ (r : ClauseReader). ((‵ (flft κ q) ⊛ ‵ ftrue) ⊛ ‵ (Row (κ, tt) .own r (u ∷ []))) ⊛ raw (ensured 𝓤 H A new.ended (new.clauses 𝓤 H A mem run) (κ, tt) (s, tt) tt r)))) (id⊢ 𝓤 _) $ await ! tt $ pick ! (λ r.
         split ! $ move ! (1 ∷ []) $ use1 W (raw (fact 𝓤 (Made s r))) (new-said r) $ heard ! (Made s r) (λ e. split ! $ move ! (1 ∷ []) $
-        -- [what the reader owns; the token; what the file owns; room for _4; …; room for _3; …; _2; …; _1; …; room for _0; …]
+        -- [what the reader owns; the token; what the file owns; room for _4; …; room for _3; …; _2; …; _1; …; room for
+        -- _0; …]
         peeks ! (Row (κ, tt)) (Is (Row (κ, tt))) (shows 𝓤 H A (Row (κ, tt))) r (u ∷ []) (λ is.
         land ! (from ! (stop !)) (init ! 3 refl (LL.lawful (T.the-type αᵉ) (T′.the-laws αᵉ) 𝓤 H A W .typed r _ is .0)) $
         use2 W (raw (Advance 𝓤 H A mem run .pre (to-advance r u))) (goes-advance r u) $

@@ -1,4 +1,5 @@
--- `check_closing` meets its contract: a part of the file is shorter than a word where the clause is empty. Assumes nothing.
+-- `check_closing` meets its contract: a part of the file is shorter than a word where the clause is empty. Assumes
+-- nothing.
 use mathlib.Core.Path.{_≡_, sym, ap, _∙_}
 use mathlib.Core.Bool.{true}
 use Prim.Native.Nat.{_/_}
@@ -6,14 +7,16 @@ use native.Mathlib.Omega.{arith}
 use lib.ListN.{length}
 use borrow.Author.Tests.{not-true, not-false}
 use borrow.Author.Needs.{needs}
+use Rattle.rule_file.specs.Words.{word, next-word, all-words}
 use Rattle.rule_file.specs.RuleFile.{clause-count}
 use Rattle.rule_file.specs.Answer.{answer}
+use Rattle.rule_file.proofs.WalkLaws.{elements-length}
 use Rattle.derivation.specs.DerivationFile.{line-count, closing-reference}
 use Rattle.derivation.specs.Check.{check-from-21}
 use Rattle.derivation.specs.Parent.{is-named, referent-literals, referent-value}
-use Rattle.derivation.proofs.ParentLaws.{named-line}
+use Rattle.derivation.proofs.ParentLaws.{named-line, referent-words}
 use Rattle.derivation.proofs.JudgeLaws.{walked-file}
-use Rattle.derivation.proofs.CheckLaws.{words-length, closing-absent, closing-with-literals, closing-empty}
+use Rattle.derivation.proofs.CheckLaws.{closing-absent, closing-with-literals, closing-empty}
 use Rattle.derivation.proofs.check_closing.Statement.{statement}
 use Rattle.derivation.proofs.check_closing.Tie as tie
 
@@ -47,16 +50,9 @@ size : (c : tie.After-parent) →
 size c =
     let b = c .before .before .before .before .before .before .args .rule .now in
     let d = c .before .before .before .before .before .before .args .derivation .now in
-    sym (words-length _ 0 _) ∙ ap length (c .parent .ensures ∙ ap (referent-literals b d) (c .before .before .before .word .ensures .0))
-
-sub-word : tie.Need-sub-word
-sub-word c = search needs
-
-word-requires : tie.Need-word-requires
-word-requires c κs = search needs
-
-is-named-requires : tie.Need-is-named-requires
-is-named-requires c κs = search needs
+    let r = c .before .before .before .before .before .before .pre .0 in
+    let words = ap all-words (c .parent .ensures .0) ∙ referent-words b d (r .accepted) (walked-file r) _ (named-read (c .before)) in
+    sym (elements-length next-word (word _) _ 0) ∙ ap length (words ∙ ap (referent-literals b d) (c .before .before .before .word .ensures .0))
 
 returns : tie.Need-returns
 unfolding check-from-21
@@ -84,9 +80,9 @@ pub check-closing-spec : {M : Type 1} → statement M
 check-closing-spec =
     tie.close
     (tie.spec
-    sub-word
-    word-requires
-    is-named-requires
+    (λ c. search needs)
+    (λ c κs. search needs)
+    (λ c κs. search needs)
     returns
     parent-requires
     returns-2

@@ -1,13 +1,16 @@
 -- `check_structure` meets its contract: 15, then 16. Assumes nothing.
-use mathlib.Core.Path.{_≡_, sym, ap, _∙_}
+use mathlib.Core.Path.{_≡_, ap, _∙_}
 use mathlib.Core.Option.{Option, none}
 use Prim.Native.Nat.{ℕ}
+use native.Mathlib.Omega.{arith}
 use borrow.Author.Needs.{needs}
+use Rattle.rule_file.specs.Walk.{first}
 use Rattle.rule_file.specs.RuleFile.{variable-count}
-use Rattle.rule_file.specs.Reader.{first}
+use Rattle.rule_file.specs.Checks.{place}
+use Rattle.rule_file.proofs.WalkLaws.{first-none}
+use Rattle.rule_file.proofs.ReaderLaws.{found-nothing, found-at}
 use Rattle.derivation.specs.DerivationFile.{trailer-start, line-count, lines, lines-from}
-use Rattle.derivation.specs.Check.{fault, numbered, walk-lines, line-fault, check-from-15}
-use Rattle.derivation.proofs.CheckLaws.{numbered-none, first-none}
+use Rattle.derivation.specs.Check.{walk-lines, line-fails, check-from-15}
 use Rattle.derivation.proofs.check_structure.Statement.{statement}
 use Rattle.derivation.proofs.check_structure.Tie as tie
 
@@ -17,50 +20,38 @@ walk-place s =
     let d = s .args .derivation .now in walk-lines d (variable-count (s .args .rule .now)) (trailer-start d) (line-count d) 0
 
 abbrev literal-place : tie.Start → Option ℕ
-literal-place s = first (line-fault (variable-count (s .args .rule .now))) (lines (s .args .derivation .now))
+literal-place s = first (line-fails (variable-count (s .args .rule .now))) (lines (s .args .derivation .now))
 
 -- what the code finds is that
-walk-is : (c : tie.After-walk-fault) → fault (c .walk-fault .result) ≡ numbered 15 (walk-place (c .before .before .before .before))
+walk-is : (c : tie.After-walk-fault) → place (c .walk-fault .result) ≡ walk-place (c .before .before .before .before)
 walk-is c =
     let s = c .before .before .before .before in
     let d = s .args .derivation .now in
     let n = ap (λ h. h .variables) (s .pre .1 .0) in
-    c .walk-fault .ensures ∙ (λ j. numbered 15 (walk-lines d (n j) (trailer-start d) (c .before .word .ensures .0 j) 0))
+    c .walk-fault .ensures ∙ (λ j. walk-lines d (n j) (trailer-start d) (c .before .word .ensures .0 j) 0)
 
-literal-is : (c : tie.After-literal-fault) → fault (c .literal-fault .result) ≡ numbered 16 (literal-place (c .before .before .before .before .before .before .before))
+literal-is : (c : tie.After-literal-fault) → place (c .literal-fault .result) ≡ literal-place (c .before .before .before .before .before .before .before)
 literal-is c =
     let s = c .before .before .before .before .before .before .before in
     let n = ap (λ h. h .variables) (s .pre .1 .0) in
-    c .literal-fault .ensures ∙ (λ j. numbered 16 (first (line-fault (n j)) (lines-from (s .args .derivation .now) (c .before .before .before .before .word .ensures .0 j) 0)))
+    c .literal-fault .ensures ∙ (λ j. first (line-fails (n j)) (lines-from (s .args .derivation .now) (c .before .before .before .before .word .ensures .0 j) 0))
 
 -- past each of them its check is passed
-walk-found : (c : tie.After-enum-told) → none ≡ numbered 15 (walk-place (c .before .before .before .before .before .before))
-walk-found c = sym (ap fault (c .enum-told .given .1)) ∙ walk-is (c .before .before)
-
 walked : (c : tie.After-enum-told) → walk-place (c .before .before .before .before .before .before) ≡ none
-walked c = numbered-none 15 _ (sym (walk-found c))
+walked c = found-nothing (walk-is (c .before .before)) (c .enum-told .given .1)
 
-literal-found : (c : tie.After-enum-told2) → none ≡ numbered 16 (literal-place (c .before .before .before .before .before .before .before .before .before))
-literal-found c = sym (ap fault (c .enum-told2 .given .1)) ∙ literal-is (c .before .before)
+in-order : (c : tie.After-enum-told2) → literal-place (c .before .before .before .before .before .before .before .before .before) ≡ none
+in-order c = found-nothing (literal-is (c .before .before)) (c .enum-told2 .given .1)
 
 sub-end : tie.Need-sub-end
-sub-end c = search needs
+sub-end c = omega (arith, c .before .before .pre .1 .1 .right-length .at-least)
 
 word-requires : tie.Need-word-requires
-word-requires c κs = search needs
-
-walk-fault-requires : tie.Need-walk-fault-requires
-walk-fault-requires c κs = search needs
-
-enum-known-walk : tie.Need-enum-known-walk
-enum-known-walk c = search needs
+word-requires c κs = omega (arith, c .before .before .pre .1 .1 .right-length .at-least)
 
 returns : tie.Need-returns
 unfolding check-from-15
-returns c = rw (← (sym (ap fault (c .before .walk .given .1)) ∙ walk-is (c .before .before .before)))
-
-enum-told : tie.Need-enum-told
-enum-told c = search needs
+returns c = rw (found-at (walk-is (c .before .before .before)) (c .before .line .given .1))
 
 literal-fault-requires : tie.Need-literal-fault-requires
 literal-fault-requires c κs =
@@ -68,31 +59,24 @@ literal-fault-requires c κs =
     let n = ap (λ h. h .variables) (s .pre .1 .0) in
     (rw n (s .pre .0 .few-variables), rw (n, c .before .before .before .word .ensures .0) (walked c))
 
-enum-known-literal : tie.Need-enum-known-literal
-enum-known-literal c = search needs
-
 returns-2 : tie.Need-returns-2
 unfolding check-from-15
-returns-2 c = rw (← (walk-found (c .before .before .before .before)), ← (sym (ap fault (c .before .literal .given .1)) ∙ literal-is (c .before .before .before)))
-
-enum-told-2 : tie.Need-enum-told-2
-enum-told-2 c = search needs
+returns-2 c = rw (walked (c .before .before .before .before), found-at (literal-is (c .before .before .before)) (c .before .line2 .given .1))
 
 check-lines-requires : tie.Need-check-lines-requires
 check-lines-requires c κs =
-    let s = c .before .before .before .before .before .before .before .before .before in
-    let no-fault = first-none _ _ (numbered-none 16 _ (sym (literal-found c))) in (
+    let s = c .before .before .before .before .before .before .before .before .before in (
       record {
         accepted = s .pre .0;
         header-is = s .pre .1 .0;
-        well-formed = record { counted = s .pre .1 .1; walked = walked (c .before .before .before); no-fault = no-fault };
+        well-formed = record { right-counts = s .pre .1 .1; walked = walked (c .before .before .before); no-fault = first-none _ _ (in-order c) };
       },
       c .before .before .before .before .before .before .word .ensures .0,
     )
 
 returns-3 : tie.Need-returns-3
 unfolding check-from-15
-returns-3 c = rw (← (walk-found (c .before .before .before .before)), ← (literal-found (c .before))) (c .check-lines .ensures)
+returns-3 c = rw (walked (c .before .before .before .before), in-order (c .before)) (c .check-lines .ensures)
 
 pub check-structure-spec : {M : Type 1} → statement M
 check-structure-spec =
@@ -100,13 +84,13 @@ check-structure-spec =
     (tie.spec
     sub-end
     word-requires
-    walk-fault-requires
-    enum-known-walk
+    (λ c κs. search needs)
+    (λ c. search needs)
     returns
-    enum-told
+    (λ c. search needs)
     literal-fault-requires
-    enum-known-literal
+    (λ c. search needs)
     returns-2
-    enum-told-2
+    (λ c. search needs)
     check-lines-requires
     returns-3)

@@ -1,31 +1,33 @@
--- `put_refusal` meets its contract: its line is `put_line`'s. Assumes nothing.
+-- `put_refusal` meets its contract: by its case the line has one number or two. Assumes nothing.
+use Rattle.buffer.specs.Text.{ascii}
+use Rattle.report.specs.Report.{refusal-line}
 use borrow.Author.Needs.{needs}
-use Rattle.report.specs.Text.{ascii}
 use Rattle.report.proofs.put_refusal.Statement.{statement}
 use Rattle.report.proofs.put_refusal.Tie as tie
 
-slice-aggregate-put-line : tie.Need-slice-aggregate-put-line
-slice-aggregate-put-line c = search needs
-
-slice-aggregate-put-line-2 : tie.Need-slice-aggregate-put-line-2
-slice-aggregate-put-line-2 c = search needs
-
-put-line-requires : tie.Need-put-line-requires
-put-line-requires c κs = search needs
-
-same-length : tie.Need-same-length
-same-length c = search needs
-
 returns : tie.Need-returns
-unfolding ascii
-returns c = c .before .before .put-line .ensures
+unfolding refusal-line ascii
+returns c = rw (c .before .before .before .before .before .before .before .refusal .given .1) (c .before .before .put-line .ensures .0)
+
+returns-2 : tie.Need-returns-2
+unfolding refusal-line ascii
+returns-2 c = rw (c .before .before .before .before .before .before .before .refusal2 .given .1) (c .before .before .put-line2 .ensures .0)
 
 pub put-refusal-spec : {M : Type 1} → statement M
 put-refusal-spec =
     tie.close
     (tie.spec
-    slice-aggregate-put-line
-    slice-aggregate-put-line-2
-    put-line-requires
-    same-length
-    returns)
+    (λ c. search needs)
+    (λ c. search needs)
+    (λ c. search needs)
+    (λ c. search needs)
+    (λ c κs. search needs)
+    (λ c. search needs)
+    (λ c. search needs)
+    (λ c. search needs)
+    (λ c. search needs)
+    (λ c κs. search needs)
+    (λ c. search needs)
+    returns
+    (λ c. search needs)
+    returns-2)

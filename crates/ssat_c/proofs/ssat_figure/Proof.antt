@@ -7,20 +7,8 @@ use borrow.Author.Needs.{needs}
 use Rattle.ssat_c.proofs.ssat_figure.Statement.{statement}
 use Rattle.ssat_c.proofs.ssat_figure.Tie as tie
 
-figure-requires : tie.Need-figure-requires
-figure-requires c κs = search needs
-
-enum-known-number : tie.Need-enum-known-number
-enum-known-number c = search needs
-
-enum-known-x : tie.Need-enum-known-x
-enum-known-x c = search needs
-
-fill-requires : tie.Need-fill-requires
-fill-requires c κs = search needs
-
 returns : tie.Need-returns
-returns c = let (r, o) = hand-refusal ratio-values _ _ _ (sym (c .before .before .before .figure .ensures .0) ∙ ap figuring (c .before .number .given .1)) in (r, (o, refl))
+returns c = let (r, o) = hand-refusal ratio-values _ _ _ _ _ (sym (c .before .before .before .before .before .figure .ensures .0) ∙ ap figuring (c .before .before .before .refusal .given .1)) (c .refuse .ensures .0) (c .refuse .ensures .1) in (r, (o, refl))
 
 returns-2 : tie.Need-returns-2
 returns-2 c = let (r, o) = hand-answer ratio-values _ _ _ _ _ (sym (c .before .before .before .before .before .figure .ensures .0) ∙ ap figuring (c .before .before .before .x .given .1)) (c .fill .ensures .0) (c .fill .ensures .1) in (r, (o, refl))
@@ -28,4 +16,11 @@ returns-2 c = let (r, o) = hand-answer ratio-values _ _ _ _ _ (sym (c .before .b
 pub ssat-figure-spec : {M : Type 1} → statement M
 ssat-figure-spec =
     tie.close
-    (tie.spec figure-requires enum-known-number enum-known-x fill-requires returns returns-2)
+    (tie.spec
+    (λ c κs. search needs)
+    (λ c. search needs)
+    (λ c κs. search needs)
+    (λ c. search needs)
+    (λ c κs. search needs)
+    returns
+    returns-2)

@@ -7,32 +7,8 @@ use borrow.Author.Needs.{needs}
 use Rattle.ssat_c.proofs.ssat_verdict.Statement.{statement}
 use Rattle.ssat_c.proofs.ssat_verdict.Tie as tie
 
-verdict-requires : tie.Need-verdict-requires
-verdict-requires c κs = search needs
-
-enum-known-number : tie.Need-enum-known-number
-enum-known-number c = search needs
-
-enum-told : tie.Need-enum-told
-enum-told c = search needs
-
-fill-requires : tie.Need-fill-requires
-fill-requires c κs = search needs
-
-enum-told-2 : tie.Need-enum-told-2
-enum-told-2 c = search needs
-
-fill-requires-2 : tie.Need-fill-requires-2
-fill-requires-2 c κs = search needs
-
-enum-known-figure : tie.Need-enum-known-figure
-enum-known-figure c = search needs
-
-fill-requires-3 : tie.Need-fill-requires-3
-fill-requires-3 c κs = search needs
-
 returns : tie.Need-returns
-returns c = let (r, o) = hand-refusal verdict-values _ _ _ (sym (c .before .before .before .verdict .ensures .0) ∙ ap judging (c .before .number .given .1)) in (r, (o, refl))
+returns c = let (r, o) = hand-refusal verdict-values _ _ _ _ _ (sym (c .before .before .before .before .before .verdict .ensures .0) ∙ ap judging (c .before .before .before .refusal .given .1)) (c .refuse .ensures .0) (c .refuse .ensures .1) in (r, (o, refl))
 
 returns-2 : tie.Need-returns-2
 returns-2 c = let (r, o) = hand-answer verdict-values _ _ _ _ _ (sym (c .before .before .before .before .verdict .ensures .0) ∙ ap judging (c .before .before .enum-told .given .1)) (c .fill .ensures .0) (c .fill .ensures .1) in (r, (o, refl))
@@ -47,14 +23,15 @@ pub ssat-verdict-spec : {M : Type 1} → statement M
 ssat-verdict-spec =
     tie.close
     (tie.spec
-    verdict-requires
-    enum-known-number
-    enum-told
-    fill-requires
-    enum-told-2
-    fill-requires-2
-    enum-known-figure
-    fill-requires-3
+    (λ c κs. search needs)
+    (λ c. search needs)
+    (λ c κs. search needs)
+    (λ c. search needs)
+    (λ c κs. search needs)
+    (λ c. search needs)
+    (λ c κs. search needs)
+    (λ c. search needs)
+    (λ c κs. search needs)
     returns
     returns-2
     returns-3

@@ -29,7 +29,7 @@ impl<'a> Writer<'a> {
 
     fn set(&self, reference: u32) -> Literals {
         let number = (reference / 2) as usize;
-        if reference % 2 == 0 {
+        if reference.is_multiple_of(2) {
             self.rules.clauses[number]
         } else {
             self.lines[number].0
@@ -37,7 +37,7 @@ impl<'a> Writer<'a> {
     }
 
     fn value(&self, reference: u32) -> u128 {
-        if reference % 2 == 0 {
+        if reference.is_multiple_of(2) {
             0
         } else {
             self.lines[(reference / 2) as usize].1.value.into()
@@ -52,14 +52,14 @@ impl<'a> Writer<'a> {
         Some(2 * self.lines.len() as u32 - 1)
     }
 
-    fn hits(&self, set: Literals) -> bool {
+    fn is_blocking(&self, set: Literals) -> bool {
         self.rules.clauses.iter().all(|clause| clause & opposites(set) != 0)
     }
 
-    fn write_met(&mut self, mut set: Literals) -> Option<u32> {
+    fn write_blocking(&mut self, mut set: Literals) -> Option<u32> {
         if self.trim {
             for literal in list_of(set).into_iter().rev() {
-                if self.hits(set & !(1 << literal)) {
+                if self.is_blocking(set & !(1 << literal)) {
                     set &= !(1 << literal);
                 }
             }
@@ -88,16 +88,16 @@ impl<'a> Writer<'a> {
     /// clause of which all literals are false there.
     fn node(&mut self, i: usize, falsehoods: Literals) -> Option<u32> {
         let clauses = &self.rules.clauses;
-        if let Some(lost) = clauses.iter().position(|clause| clause & !falsehoods == 0) {
-            return Some(2 * lost as u32);
+        if let Some(falsified) = clauses.iter().position(|clause| clause & !falsehoods == 0) {
+            return Some(2 * falsified as u32);
         }
         if self.reuse {
             if let Some(line) = self.lines.iter().position(|line| line.0 & !falsehoods == 0) {
                 return Some(2 * line as u32 + 1);
             }
         }
-        if self.hits(falsehoods) {
-            return self.write_met(falsehoods);
+        if self.is_blocking(falsehoods) {
+            return self.write_blocking(falsehoods);
         }
         let (positive, negative) = (1 << (2 * i), 1 << (2 * i + 1));
         let on_true = self.node(i + 1, falsehoods | negative)?;
@@ -131,8 +131,8 @@ impl<'a> Writer<'a> {
                         set |= 1 << (2 * v + random.below(2));
                     }
                 }
-                if self.hits(set) {
-                    self.write_met(set);
+                if self.is_blocking(set) {
+                    self.write_blocking(set);
                 }
             } else if self.rules.clauses.len() + self.lines.len() > 0 {
                 let (on_true, on_false) = (reference(random, self), reference(random, self));
@@ -218,20 +218,18 @@ pub fn faulty_derivation(random: &mut Random, rules: &Rules, draft: &mut Derivat
         (0..count).filter(|&at| draft.lines[at].resolved.is_some() == (kind == 2)).collect()
     };
     match fault {
-        16 => {
-            if count > 0 && n > 0 {
-                let line = &mut draft.lines[random.below(count)];
-                let near = 2 * n + random.below(70) as u32;
-                let large = random.pick(&[2 * n, 2 * n + 1, near, 1 << 31, u32::MAX]);
-                let at = random.below(line.literals.len() + 1);
-                if random.once_in(2) && at < line.literals.len() {
-                    line.literals[at] = large;
-                } else if !line.literals.is_empty() && random.once_in(2) {
-                    let twin = line.literals[0] ^ random.below(2) as u32;
-                    line.literals.insert(at, twin);
-                } else {
-                    line.literals.insert(at, large);
-                }
+        16 if count > 0 && n > 0 => {
+            let line = &mut draft.lines[random.below(count)];
+            let near = 2 * n + random.below(70) as u32;
+            let large = random.pick(&[2 * n, 2 * n + 1, near, 1 << 31, u32::MAX]);
+            let at = random.below(line.literals.len() + 1);
+            if random.once_in(2) && at < line.literals.len() {
+                line.literals[at] = large;
+            } else if !line.literals.is_empty() && random.once_in(2) {
+                let twin = line.literals[0] ^ random.below(2) as u32;
+                line.literals.insert(at, twin);
+            } else {
+                line.literals.insert(at, large);
             }
         }
         19 if random.once_in(2) => {
@@ -292,19 +290,17 @@ pub fn faulty_derivation(random: &mut Random, rules: &Rules, draft: &mut Derivat
                 }
             }
         }
-        20 => {
-            if count > 0 {
-                let line = &mut draft.lines[random.below(count)];
-                line.value = match random.below(7) {
-                    0 => line.value.wrapping_add(1),
-                    1 => line.value.wrapping_sub(1),
-                    2 => line.value.wrapping_add(1 << 32),
-                    3 => line.value.rotate_left(32),
-                    4 => line.value.wrapping_mul(2),
-                    5 => rules.whole() as u64,
-                    _ => 0,
-                };
-            }
+        20 if count > 0 => {
+            let line = &mut draft.lines[random.below(count)];
+            line.value = match random.below(7) {
+                0 => line.value.wrapping_add(1),
+                1 => line.value.wrapping_sub(1),
+                2 => line.value.wrapping_add(1 << 32),
+                3 => line.value.rotate_left(32),
+                4 => line.value.wrapping_mul(2),
+                5 => rules.whole() as u64,
+                _ => 0,
+            };
         }
         21 => {
             let count = count as u32;

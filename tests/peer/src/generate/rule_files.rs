@@ -11,31 +11,31 @@ pub enum Pattern {
     Existential,
     Randomized,
     Alternating,
-    /// Blocks of this many variables of one sort.
+    /// Blocks of this many variables of one quantifier.
     Blocked(usize),
     Mixed,
 }
 
-/// The sorts of `n` variables: true where randomized.
-pub fn sorts(random: &mut Random, n: usize, pattern: Pattern) -> Vec<bool> {
+/// Which of `n` variables are randomized.
+pub fn randomized(random: &mut Random, n: usize, pattern: Pattern) -> Vec<bool> {
     let first = random.once_in(2);
-    let sort = |i: usize| match pattern {
+    let is_randomized = |i: usize| match pattern {
         Pattern::Existential => false,
         Pattern::Randomized => true,
         Pattern::Alternating => first ^ (i % 2 == 1),
         Pattern::Blocked(size) => first ^ (i / size % 2 == 1),
         Pattern::Mixed => random.once_in(2),
     };
-    (0..n).map(sort).collect()
+    (0..n).map(is_randomized).collect()
 }
 
 /// A prefix whose whole is at most 2^60.
 pub fn prefix(random: &mut Random, n: usize, pattern: Pattern) -> Vec<[u32; 2]> {
     let most = random.pick(&[1, 4, 4, 20, 1_000, 65_535]);
     let mut pairs: Vec<[u32; 2]> = Vec::new();
-    for randomized in sorts(random, n, pattern) {
+    for is_randomized in randomized(random, n, pattern) {
         let mut weight = || random.within(1, most) as u32;
-        pairs.push(if randomized { [weight(), weight()] } else { [0, 0] });
+        pairs.push(if is_randomized { [weight(), weight()] } else { [0, 0] });
     }
     while whole(&pairs) > LARGEST_WHOLE {
         let at = random.below(n);

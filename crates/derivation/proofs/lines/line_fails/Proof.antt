@@ -2,7 +2,7 @@
 use mathlib.Core.Path.{sym, _∙_}
 use native.Mathlib.Omega.{arith}
 use Rattle.formula.specs.Formula.{out-of-range, repeats}
-use Rattle.derivation.specs.Check.{line-fault}
+use Rattle.derivation.specs.Check.{line-fails}
 use Rattle.derivation.proofs.LineLaws.{derived-is, value-before}
 use Rattle.derivation.proofs.lines.line_fails.Statement.{statement}
 use Rattle.derivation.proofs.lines.line_fails.Tie as tie
@@ -20,20 +20,23 @@ out-of-range-requires : tie.Need-out-of-range-requires
 out-of-range-requires c κs = let a = c .before .before .args in let v = value-before (a .derivation .now) (a .i) in omega (arith, c .word .ensures .0)
 
 returns : tie.Need-returns
-unfolding line-fault
-returns c = rw (derived-is _ _, ← (c .before .before .word .ensures .0), sym (c .before .out-of-range .ensures) ∙ c .if1 .taken)
+unfolding line-fails
+returns c = rw (derived-is _ _, ← (c .before .before .word .ensures .0), sym (c .before .out-of-range .ensures .0) ∙ c .if1 .taken)
 
 add-repeats : tie.Need-add-repeats
 add-repeats c = let a = c .before .before .before .before .args in let v = value-before (a .derivation .now) (a .i) in omega arith
 
 repeats-requires : tie.Need-repeats-requires
-repeats-requires c κs = let a = c .before .before .before .before .args in let v = value-before (a .derivation .now) (a .i) in omega (arith, c .before .before .word .ensures .0)
+repeats-requires c κs =
+    let a = c .before .before .before .before .args in
+    let v = value-before (a .derivation .now) (a .i) in
+    (omega (arith, c .before .before .word .ensures .0), (c .before .before .before .before .pre .1, sym (c .before .out-of-range .ensures .0) ∙ c .if1 .left))
 
 returns-2 : tie.Need-returns-2
-unfolding line-fault
+unfolding line-fails
 returns-2 c =
-    let in-range = sym (c .before .before .out-of-range .ensures) ∙ c .before .if1 .left in
-    rw (derived-is _ _, ← (c .before .before .before .word .ensures .0), in-range) (c .repeats .ensures)
+    let in-range = sym (c .before .before .out-of-range .ensures .0) ∙ c .before .if1 .left in
+    rw (derived-is _ _, ← (c .before .before .before .word .ensures .0), in-range) (c .repeats .ensures .0)
 
 pub line-fails-spec : {M : Type 1} → statement M
 line-fails-spec =

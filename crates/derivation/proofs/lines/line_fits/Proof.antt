@@ -21,35 +21,17 @@ known c = sym (kind-test (c .before)) ∙ not-false _ (c .if2 .left)
 short : (c : tie.Else3) → let a = c .before .before .before .before .before .before .before .args in leb (size (a .derivation .now) (a .i)) (a .n) ≡ true
 short c = rw (← (c .before .word2 .ensures .0)) (le-leb _ _ (c .if3 .left))
 
-add-if1 : tie.Need-add-if1
-add-if1 c = search needs
-
 returns : tie.Need-returns
 unfolding line-fits
 returns c = rw (lt-leb _ _ (c .if1 .taken))
-
-word-requires : tie.Need-word-requires
-word-requires c κs = search needs
-
-is-known-requires : tie.Need-is-known-requires
-is-known-requires c κs = search needs
 
 returns-2 : tie.Need-returns-2
 unfolding line-fits
 returns-2 c = rw (le-leb _ _ (c .before .before .before .if1 .left), sym (kind-test (c .before)) ∙ not-true _ (c .if2 .taken))
 
-add-word : tie.Need-add-word
-add-word c = search needs
-
-word-requires-2 : tie.Need-word-requires-2
-word-requires-2 c κs = search needs
-
 returns-3 : tie.Need-returns-3
 unfolding line-fits
 returns-3 c = rw (le-leb _ _ (c .before .before .before .before .before .if1 .left), known (c .before .before), ← (c .before .word2 .ensures .0), lt-leb _ _ (c .if3 .taken))
-
-after-line-requires : tie.Need-after-line-requires
-after-line-requires c κs = search needs
 
 returns-4 : tie.Need-returns-4
 unfolding line-fits
@@ -59,13 +41,13 @@ pub line-fits-spec : {M : Type 1} → statement M
 line-fits-spec =
     tie.close
     (tie.spec
-    add-if1
+    (λ c. search needs)
     returns
-    word-requires
-    is-known-requires
+    (λ c κs. search needs)
+    (λ c κs. search needs)
     returns-2
-    add-word
-    word-requires-2
+    (λ c. search needs)
+    (λ c κs. search needs)
     returns-3
-    after-line-requires
+    (λ c κs. search needs)
     returns-4)

@@ -1,5 +1,5 @@
--- `walk_fault` meets its contract. The loop keeps: what the walk from here finds, counted from the line at hand, is what the whole walk finds.
--- Assumes nothing.
+-- `walk_fault` meets its contract. The loop keeps: what the walk from here finds, counted from the line at hand, is
+-- what the whole walk finds. Assumes nothing.
 use mathlib.Core.Path.{_≡_, sym, ap, _∙_}
 use mathlib.Core.Bool.{true}
 use mathlib.Core.Option.{some}
@@ -7,9 +7,10 @@ use Prim.Native.Nat.{_-_, _≤_}
 use native.Mathlib.Nat.{sub-zero}
 use native.Mathlib.Omega.{arith}
 use borrow.Author.Tests.{not-true, not-false}
+use Rattle.rule_file.proofs.WalkLaws.{from, from-zero, walk-fault, walk-on, walk-ended, walk-missed}
+use Rattle.derivation.specs.DerivationFile.{after-line}
 use Rattle.derivation.specs.Check.{walk-lines, line-fits}
-use Rattle.derivation.proofs.PlaceLaws.{from, from-zero}
-use Rattle.derivation.proofs.LineLaws.{line-ends, value-before, walk-fault, walk-on, walk-ended, walk-missed}
+use Rattle.derivation.proofs.LineLaws.{line-ends, value-before}
 use Rattle.derivation.proofs.lines.walk_fault.Statement.{statement}
 use Rattle.derivation.proofs.lines.walk_fault.Tie as tie
 
@@ -27,36 +28,27 @@ fits c = sym (c .before .line-fits .ensures) ∙ not-false _ (c .if1 .left)
 loop-holds : tie.Need-loop-holds Inv-loop μ-loop
 loop-holds c = (omega arith, omega arith, rw sub-zero (from-zero _))
 
-line-fits-requires : tie.Need-line-fits-requires Inv-loop μ-loop
-line-fits-requires c κs = omega arith
-
 returns : tie.Need-returns Inv-loop μ-loop
 returns c =
     let misfit = sym (c .before .line-fits .ensures) ∙ not-true _ (c .if1 .taken) in
-    rw (← (c .before .before .before .loop .inv .2), walk-fault _ _ _ _ (c .before .before .loop-test .taken) _ _ misfit)
+    sym (walk-fault (after-line _) (line-fits _ _ _) _ _ _ _ (c .before .before .loop-test .taken) misfit) ∙ c .before .before .before .loop .inv .2
 
 after-line-requires : tie.Need-after-line-requires Inv-loop μ-loop
 after-line-requires c κs = omega (arith, line-ends _ _ _ _ (fits c), value-before (c .before .before .before .before .before .args .derivation .now) (c .before .before .before .loop .i))
-
-add-line : tie.Need-add-line Inv-loop μ-loop
-add-line c = omega arith
-
-loop-less : tie.Need-loop-less Inv-loop μ-loop
-loop-less c = omega arith
 
 loop-again : tie.Need-loop-again Inv-loop μ-loop
 loop-again c =
     let e = c .after-line .ensures in
     let f = fits (c .before) in
-    (rw e (line-ends _ _ _ _ f), omega arith, rw e (walk-on _ _ _ _ (c .before .before .before .loop-test .taken) _ _ f) ∙ c .before .before .before .before .loop .inv .2)
+    (rw e (line-ends _ _ _ _ f), omega arith, rw e (walk-on (after-line _) (line-fits _ _ _) _ _ _ _ (c .before .before .before .loop-test .taken) f) ∙ c .before .before .before .before .loop .inv .2)
 
 returns-2 : tie.Need-returns-2 Inv-loop μ-loop
 returns-2 c =
     let e : c .before .before .before .before .args .count ≡ c .before .before .loop .line = omega arith in
-    rw (← (c .before .before .loop .inv .2), walk-missed _ _ _ _ (c .before .loop-test .left) _ _ (c .if2 .taken)) (ap (λ l. some (15, l)) e)
+    ap some e ∙ sym (walk-missed (after-line _) (line-fits _ _ _) _ _ _ _ (c .before .loop-test .left) (c .if2 .taken)) ∙ c .before .before .loop .inv .2
 
 returns-3 : tie.Need-returns-3 Inv-loop μ-loop
-returns-3 c = rw (← (c .before .before .loop .inv .2), walk-ended _ _ _ _ (c .before .loop-test .left) _ _ (c .if2 .left))
+returns-3 c = sym (walk-ended (after-line _) (line-fits _ _ _) _ _ _ _ (c .before .loop-test .left) (c .if2 .left)) ∙ c .before .before .loop .inv .2
 
 pub walk-fault-spec : {M : Type 1} → statement M
 walk-fault-spec =
@@ -65,11 +57,11 @@ walk-fault-spec =
     Inv-loop
     μ-loop
     loop-holds
-    line-fits-requires
+    (λ c κs. omega arith)
     returns
     after-line-requires
-    add-line
-    loop-less
+    (λ c. omega arith)
+    (λ c. omega arith)
     loop-again
     returns-2
     returns-3)

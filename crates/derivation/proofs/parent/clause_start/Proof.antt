@@ -1,10 +1,11 @@
 -- `clause_start` meets its contract. The loop keeps: where the clause at hand stands. Assumes nothing.
-use mathlib.Core.Path.{_≡_, ap, _∙_}
+use mathlib.Core.Path.{_≡_, sym, ap, _∙_}
 use Prim.Native.Nat.{_+_, _-_, _≤_}
 use native.Mathlib.Omega.{arith}
 use Rattle.rule_file.specs.Words.{word-count}
 use Rattle.rule_file.specs.RuleFile.{after-clause, clause-start}
-use Rattle.derivation.proofs.ParentLaws.{clause-start-zero, clause-start-suc, clause-within}
+use Rattle.rule_file.proofs.WalkLaws.{start-zero, start-suc}
+use Rattle.rule_file.proofs.ClauseLaws.{clause-within}
 use Rattle.derivation.proofs.parent.clause_start.Statement.{statement}
 use Rattle.derivation.proofs.parent.clause_start.Tie as tie
 
@@ -19,7 +20,7 @@ within : (c : tie.In-loop Inv-loop μ-loop) → let b = c .before .before .befor
 within c = rw (c .before .loop .inv .1) (clause-within _ (c .before .before .before .pre .0) _ (omega arith))
 
 loop-holds : tie.Need-loop-holds Inv-loop μ-loop
-loop-holds c = (omega arith, clause-start-zero _)
+loop-holds c = (omega arith, sym (start-zero (after-clause _) 0))
 
 add-i : tie.Need-add-i Inv-loop μ-loop
 add-i c = omega (arith, within c)
@@ -30,16 +31,10 @@ word-requires c κs = omega (arith, within c)
 add-i-2 : tie.Need-add-i-2 Inv-loop μ-loop
 add-i-2 c = omega (arith, within (c .before), c .word .ensures .0)
 
-add-clause : tie.Need-add-clause Inv-loop μ-loop
-add-clause c = omega arith
-
-loop-less : tie.Need-loop-less Inv-loop μ-loop
-loop-less c = omega arith
-
 loop-again : tie.Need-loop-again Inv-loop μ-loop
 loop-again c =
     let l = c .before .before .loop in
-    (omega arith, ap (λ k. l .i + 1 + k) (c .word .ensures .0) ∙ ap (after-clause _) (l .inv .1) ∙ clause-start-suc _ _)
+    (omega arith, ap (λ k. l .i + 1 + k) (c .word .ensures .0) ∙ ap (after-clause _) (l .inv .1) ∙ start-suc (after-clause _) 0 _)
 
 returns : tie.Need-returns Inv-loop μ-loop
 returns c = c .before .loop .inv .1 ∙ ap (clause-start _) (omega arith)
@@ -54,7 +49,7 @@ clause-start-spec =
     add-i
     word-requires
     add-i-2
-    add-clause
-    loop-less
+    (λ c. omega arith)
+    (λ c. omega arith)
     loop-again
     returns)

@@ -1,10 +1,11 @@
 -- `line_start` meets its contract. The loop keeps: where the line at hand stands. Assumes nothing.
-use mathlib.Core.Path.{_≡_, ap, _∙_}
+use mathlib.Core.Path.{_≡_, sym, ap, _∙_}
 use Prim.Native.Nat.{_-_, _≤_}
 use native.Mathlib.Omega.{arith}
+use Rattle.rule_file.proofs.WalkLaws.{start-zero, start-suc}
 use Rattle.derivation.specs.DerivationFile.{trailer-start, after-line}
 use Rattle.derivation.specs.Parent.{line-start}
-use Rattle.derivation.proofs.LineLaws.{value-before, line-start-zero, line-start-suc, line-within}
+use Rattle.derivation.proofs.LineLaws.{value-before, line-within}
 use Rattle.derivation.proofs.parent.line_start.Statement.{statement}
 use Rattle.derivation.proofs.parent.line_start.Tie as tie
 
@@ -19,19 +20,13 @@ within : (c : tie.In-loop Inv-loop μ-loop) → let d = c .before .before .befor
 within c = rw (c .before .loop .inv .1) (line-within _ _ _ _ (c .before .before .before .pre .0 .walked) _ (omega arith))
 
 loop-holds : tie.Need-loop-holds Inv-loop μ-loop
-loop-holds c = (omega arith, line-start-zero _)
+loop-holds c = (omega arith, sym (start-zero (after-line _) 0))
 
 after-line-requires : tie.Need-after-line-requires Inv-loop μ-loop
 after-line-requires c κs = omega (arith, within c, value-before (c .before .before .before .args .derivation .now) (c .before .loop .i))
 
-add-line : tie.Need-add-line Inv-loop μ-loop
-add-line c = omega arith
-
-loop-less : tie.Need-loop-less Inv-loop μ-loop
-loop-less c = omega arith
-
 loop-again : tie.Need-loop-again Inv-loop μ-loop
-loop-again c = (omega arith, c .after-line .ensures ∙ ap (after-line _) (c .before .before .loop .inv .1) ∙ line-start-suc _ _)
+loop-again c = (omega arith, c .after-line .ensures ∙ ap (after-line _) (c .before .before .loop .inv .1) ∙ start-suc (after-line _) 0 _)
 
 returns : tie.Need-returns Inv-loop μ-loop
 returns c = c .before .loop .inv .1 ∙ ap (line-start _) (omega arith)
@@ -39,4 +34,4 @@ returns c = c .before .loop .inv .1 ∙ ap (line-start _) (omega arith)
 pub line-start-spec : {M : Type 1} → statement M
 line-start-spec =
     tie.close
-    (tie.spec Inv-loop μ-loop loop-holds after-line-requires add-line loop-less loop-again returns)
+    (tie.spec Inv-loop μ-loop loop-holds after-line-requires (λ c. omega arith) (λ c. omega arith) loop-again returns)

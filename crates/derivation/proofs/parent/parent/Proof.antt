@@ -1,11 +1,13 @@
--- `parent` meets its contract: by the parity of the reference the part is one of the rule file or of the derivation. Assumes nothing.
-use mathlib.Core.Path.{_∙_}
+-- `parent` meets its contract: by the parity of the reference the part is one of the rule file or of the derivation.
+-- Assumes nothing.
+use mathlib.Core.Path.{refl, _∙_}
 use Prim.Native.Nat.{_/_, _<_}
 use native.Mathlib.Nat.{le-of-lt}
 use Rattle.rule_file.specs.RuleFile.{clause-count}
+use Rattle.rule_file.proofs.ClauseLaws.{clause-within}
 use Rattle.derivation.specs.DerivationFile.{line-count}
 use Rattle.derivation.proofs.LineLaws.{line-value-within}
-use Rattle.derivation.proofs.ParentLaws.{clause-within, named-clause, clause-literals, named-line, line-literals}
+use Rattle.derivation.proofs.ParentLaws.{named-clause, clause-part, named-line, line-part}
 use Rattle.derivation.proofs.parent.parent.Statement.{statement}
 use Rattle.derivation.proofs.parent.parent.Tie as tie
 
@@ -31,12 +33,12 @@ line-literals-requires c κs = rw (c .line-start .ensures) (line-value-within _ 
 returns : tie.Need-returns
 returns c =
     let t = c .before .before in
-    c .clause-literals .ensures ∙ rw (c .before .clause-start .ensures) (clause-literals _ (t .if1 .taken) _ _ (is-clause t))
+    (c .clause-literals .ensures ∙ rw (c .before .clause-start .ensures) (clause-part _ (t .if1 .taken) _ _), (refl, refl))
 
 returns-2 : tie.Need-returns-2
 returns-2 c =
     let t = c .before .before in
-    c .line-literals .ensures ∙ rw (c .before .line-start .ensures) (line-literals _ (t .if1 .left) _ (is-line t) _)
+    (c .line-literals .ensures ∙ rw (c .before .line-start .ensures) (line-part _ (t .if1 .left) _ _), (refl, refl))
 
 pub parent-spec : {M : Type 1} → statement M
 parent-spec =

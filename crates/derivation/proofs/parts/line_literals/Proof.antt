@@ -1,24 +1,12 @@
 -- `line_literals` meets its contract. Assumes nothing.
 use mathlib.Core.Path.{ap, _∙_}
 use borrow.Author.Needs.{needs}
-use Rattle.rule_file.specs.Words.{words}
+use Rattle.rule_file.specs.Words.{part}
 use Rattle.derivation.proofs.parts.line_literals.Statement.{statement}
 use Rattle.derivation.proofs.parts.line_literals.Tie as tie
 
-add-part : tie.Need-add-part
-add-part c = search needs
-
-add-word : tie.Need-add-word
-add-word c = search needs
-
-word-requires : tie.Need-word-requires
-word-requires c κs = search needs
-
-part-requires : tie.Need-part-requires
-part-requires c κs = search needs
-
 returns : tie.Need-returns
-returns c = c .part .ensures ∙ ap (words _ _) (c .before .word .ensures .0)
+returns c = c .part .ensures .0 ∙ ap (part _ _) (c .before .word .ensures .0)
 
 pub line-literals-spec : {M : Type 1} → statement M
-line-literals-spec = tie.close (tie.spec add-part add-word word-requires part-requires returns)
+line-literals-spec = tie.close (tie.spec (λ c. search needs) (λ c. search needs) (λ c κs. search needs) (λ c κs. search needs) returns)

@@ -4,12 +4,6 @@ use borrow.Author.Needs.{needs}
 use Rattle.literals.proofs.blocking.opposite.Statement.{statement}
 use Rattle.literals.proofs.blocking.opposite.Tie as tie
 
-add-result : tie.Need-add-result
-add-result c = search needs
-
-sub-result : tie.Need-sub-result
-sub-result c = search needs
-
 returns : tie.Need-returns
 returns c = rw (eq-eqb _ _ (c .if1 .taken))
 
@@ -17,4 +11,4 @@ returns-2 : tie.Need-returns-2
 returns-2 c = rw (ne-eqb _ _ (c .if1 .left))
 
 pub opposite-spec : {M : Type 1} → statement M
-opposite-spec = tie.close (tie.spec add-result sub-result returns returns-2)
+opposite-spec = tie.close (tie.spec (λ c. search needs) (λ c. search needs) returns returns-2)

@@ -1,63 +1,19 @@
--- `none_after` meets its contract. The loop keeps: the test over the words left is the test over all. Assumes nothing.
-use mathlib.Core.Path.{_≡_, refl, sym, _∙_}
-use Prim.Native.Nat.{_+_, _≤_}
+-- `none_after` meets its contract: the range that is asked for has no bound above, since each word is under 2^32.
+-- Assumes nothing.
+use mathlib.Core.Path.{ap, _∙_}
+use mathlib.Core.Bool.{not}
 use native.Mathlib.Omega.{arith}
-use borrow.Author.Tests.{le-leb, lt-leb}
-use Rattle.rule_file.specs.Words.{word-count, words}
-use Rattle.rule_file.proofs.WordsLaws.{words-step, words-over}
-use Rattle.resolution.specs.Resolution.{none-after}
-use Rattle.literals.specs.Literals.{literals-of}
-use Rattle.literals.proofs.ListLaws.{all-fails, all-later, all-over}
+use Rattle.rule_file.proofs.ClauseLaws.{words-from}
+use Rattle.literals.proofs.LiteralLaws.{none-from}
+use borrow.Author.Needs.{needs}
 use Rattle.literals.proofs.clause.none_after.Statement.{statement}
 use Rattle.literals.proofs.clause.none_after.Tie as tie
 
-abbrev Inv-loop : tie.InvT-loop
-Inv-loop v c at₀ left₀ at left = (at + left ≤ word-count c) × (none-after v (words c at left) ≡ none-after v (literals-of c))
-
-abbrev μ-loop : tie.MeasureT-loop
-μ-loop v c at₀ left₀ at left = left
-
-loop-holds : tie.Need-loop-holds Inv-loop μ-loop
-loop-holds c = (omega arith, refl)
-
-word-requires : tie.Need-word-requires Inv-loop μ-loop
-word-requires c κs = omega arith
-
-returns : tie.Need-returns Inv-loop μ-loop
+returns : tie.Need-returns
 returns c =
-    sym (all-fails _ (words-step _ _ _ (c .before .before .loop-test .taken)) (lt-leb _ _ (rw (c .before .word .ensures .0) at (c .if1 .taken)))) ∙
-    c .before .before .before .loop .inv .1
-
-add-at : tie.Need-add-at Inv-loop μ-loop
-add-at c = omega arith
-
-sub-left : tie.Need-sub-left Inv-loop μ-loop
-sub-left c = omega arith
-
-loop-less : tie.Need-loop-less Inv-loop μ-loop
-loop-less c = omega arith
-
-loop-again : tie.Need-loop-again Inv-loop μ-loop
-loop-again c = (
-  omega arith,
-  all-later _ (words-step _ _ _ (c .before .before .loop-test .taken)) (le-leb _ _ (rw (c .before .word .ensures .0) at (c .if1 .left))) ∙
-      c .before .before .before .loop .inv .1,
-)
-
-returns-2 : tie.Need-returns-2 Inv-loop μ-loop
-returns-2 c = sym (all-over _ (words-over _ _ _ (c .loop-test .left))) ∙ c .before .loop .inv .1
+    ap not (c .some-between .ensures .0 ∙ words-from _ (λ i. omega (arith, c .before .shared-slice-known .given i)) _ _ _) ∙
+    none-from _ _
 
 pub none-after-spec : {M : Type 1} → statement M
 none-after-spec =
-    tie.close
-    (tie.spec
-    Inv-loop
-    μ-loop
-    loop-holds
-    word-requires
-    returns
-    add-at
-    sub-left
-    loop-less
-    loop-again
-    returns-2)
+    tie.close (tie.spec (λ c. search needs) (λ c. search needs) (λ c κs. search needs) returns)

@@ -1,0 +1,3 @@
+-- Laws of bit operations, and of sets made of bits.
+pub mod BitLaws
+pub mod BitSetLaws

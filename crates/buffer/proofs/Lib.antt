@@ -1,0 +1,4 @@
+-- Laws of what is put into a buffer.
+pub mod TextLaws
+pub mod DecimalLaws
+pub mod BytesLaws

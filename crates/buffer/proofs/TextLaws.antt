@@ -1,0 +1,68 @@
+-- Texts put into a buffer: the copy of one text, texts one after another, a text at the buffer's start, and one number
+-- more. The digits of a number are in DecimalLaws, the bytes of 32-bit words in BytesLaws. Assumes nothing.
+use mathlib.Core.Path.{_≡_, sym, ap, ap₂, _∙_}
+use mathlib.Core.List.{List, [], _∷_, _++_, append-nil, append-assoc}
+use Prim.Native.Nat.{ℕ, zero, suc, _+_, _≤_, _<_}
+use native.Mathlib.Nat.{add-zero, le-of-suc-le-suc}
+use native.Mathlib.Omega.{arith}
+use native.Mathlib.Numerals.{add-one}
+use lib.ListN.{length, take, drop, getD, set, length-append, length-take, take-append-drop}
+use lib.Seq.{paste, paste-suc, take-all, take-at, drop-at, drop-drop, length-take-le}
+use Rattle.io.specs.Counts.{Counts}
+use Rattle.buffer.specs.Text.{Put, decimal, after-blanks}
+
+-- a copy goes on by one byte
+pub paste-more :
+    (before after : List ℕ) (at : ℕ) (text : List ℕ) (i : ℕ) → at + i < length before → i < length text
+    → after ≡ paste before at text i → set after (at + i) (getD text i 0) ≡ paste before at text (i + 1)
+paste-more before after at text i h k e = rw (e, add-one) (paste-suc before at text i 0 h k)
+
+-- a copy of the whole text
+pub paste-all :
+    (before after : List ℕ) (at : ℕ) (text : List ℕ) (i : ℕ) → i ≤ length text → length text ≤ i
+    → after ≡ paste before at text i → Put before at text after (at + i)
+paste-all before after at text i h k e =
+    let n : i ≡ length text = omega arith in
+    record { ends = ap (λ m. at + m) n; contents = e ∙ rw (take-all i text k) }
+
+-- no text yet
+pub put-nothing : (a : List ℕ) (i : ℕ) → Put a i [] a i
+put-nothing a i =
+    record { ends = sym (add-zero i); contents = sym (ap (λ l. l ++ drop i a) (append-nil (take i a)) ∙ take-append-drop i a) }
+
+-- a text after a text
+pub put-append :
+    {a b c : List ℕ} {i j k : ℕ} {s t : List ℕ} → i ≤ length a → Put a i s b j → Put b j t c k → Put a i (s ++ t) c k
+put-append {a} {b} {c} {i} {j} {k} {s} {t} h p q =
+    record {
+      ends = rw length-append (omega (arith, p .ends, q .ends));
+      contents = q .contents ∙ ap₂ (λ x y. x ++ t ++ y) start rest ∙ ap (λ x. x ++ drop k a) (append-assoc (take i a) s t);
+    }
+  where
+    front : length (take i a ++ s) ≡ j
+    front = simp (length-append, length-take-le i a h) (sym (p .ends))
+
+    start : take j b ≡ take i a ++ s
+    start = rw (p .contents, take-at (take i a ++ s) (drop j a) j front)
+
+    rest : drop k b ≡ drop k a
+    rest = rw (q .ends, ← drop-drop (length t) j b, p .contents, drop-at (take i a ++ s) (drop j a) j front, drop-drop)
+
+-- a text at the buffer's start
+pub put-at-start :
+    {a s b : List ℕ} {r : ℕ} → Put a 0 s b r → Counts r b × (r ≡ length s) × (take r b ≡ s) × (drop r b ≡ drop r a)
+put-at-start {a} {s} {b} {r} p =
+    let e : r ≡ length s = omega (arith, p .ends) in
+    let front : take r b ≡ s = rw (p .contents) (take-at s (drop r a) r (sym e)) in
+    let n : r ≡ length (take r b) = e ∙ ap length (sym front) in
+    ((omega (arith, length-take r b), n), e, front, rw (p .contents) (drop-at s (drop r a) r (sym e)))
+
+-- one number more
+pub blanks-more :
+    (ns : List ℕ) (i : ℕ) → i < length ns → after-blanks (take (suc i) ns) ≡ after-blanks (take i ns) ++ 32 ∷ decimal (getD ns i 0)
+unfolding after-blanks
+blanks-more [] i h = absurd (omega arith)
+blanks-more (n ∷ ns) zero h = append-nil (32 ∷ decimal n)
+blanks-more (n ∷ ns) (suc i) h =
+    ap (λ l. 32 ∷ decimal n ++ l) (blanks-more ns i (le-of-suc-le-suc h))
+    ∙ sym (append-assoc (32 ∷ decimal n) (after-blanks (take i ns)) (32 ∷ decimal (getD ns i 0)))

@@ -1,2 +1,0 @@
--- Clauses as parts of a file.
-pub mod Literals

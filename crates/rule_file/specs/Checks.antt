@@ -1,0 +1,34 @@
+-- How the reader's functions test and what they are given. What the code alone needs; assumes nothing.
+use mathlib.Core.Path.{_≡_}
+use mathlib.Core.Bool.{Bool, cond, _&&_}
+use mathlib.Core.List.{List}
+use mathlib.Core.Option.{Option, none, some}
+use Prim.Native.Nat.{ℕ, _+_, _*_, _≤_}
+use lib.Dec.{leb, ltb, eqb}
+use Rattle.formula.specs.Formula.{out-of-range, repeats}
+use Rattle.rule_file.specs.Limits.{max-variables}
+use Rattle.rule_file.specs.Words.{word-count}
+use Rattle.rule_file.specs.RuleFile.{clause-count, variable-count, prefix-start}
+use Rattle.rule_file.specs.declared.Found.{Found}
+use Rattle.rule_file.specs.declared.Found.the-variants.{Nothing, At}
+
+-- the place that a search found
+abbrev pub place : Found → Option ℕ
+place Nothing = none
+place (At i) = some i
+
+-- lo ≤ w < hi
+abbrev pub between : ℕ → ℕ → ℕ → Bool
+between lo hi w = leb lo w && ltb w hi
+
+-- 6 or 7 of one clause, by the check's number
+unfoldable pub clause-fails : ℕ → ℕ → List ℕ → Bool
+clause-fails n number c = cond (eqb number 6) (out-of-range n c) (repeats c)
+
+-- checks 1 to 4 are passed: the counts are the trailer's, and the prefix ends where the trailer begins
+pub record Trailer (b : List ℕ) (m n start : ℕ) : Type 0 where
+  pub clause-count-is : m ≡ clause-count b
+  pub variable-count-is : n ≡ variable-count b
+  pub prefix-start-is : start ≡ prefix-start b
+  pub few-variables : n ≤ max-variables
+  pub ends : start + 2 * n + 4 ≤ word-count b

@@ -1,0 +1,20 @@
+// The limits of files, each named once; specs/Limits.antt has the same.
+
+// The longest file, a rule file or a derivation.
+pub const MAX_BYTES: usize = 65536;
+
+// The bytes of the trailers, and so of the shortest files.
+pub const RULE_TRAILER: usize = 16;
+
+pub const DERIVATION_TRAILER: usize = 12;
+
+pub const MAX_VARIABLES: usize = 32;
+
+pub const MAX_CLAUSES: usize = 1024;
+
+pub const MAX_LINES: usize = 1024;
+
+pub const MAX_WEIGHT: u64 = 65535;
+
+// 2^60, the largest product of all totals.
+pub const MAX_WHOLE: u64 = 1152921504606846976;
