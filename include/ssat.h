@@ -11,7 +11,8 @@
  *                      null, even where the length is 0.
  *   out                four numbers, lent for writing; not null, aligned, and no part of the other buffers.
  *     answer           the numbers named below stand in `out` from index 0; the rest is set to 0.
- *     refusal          `out` is unchanged, except that 15 to 20 put the number of the first line at fault into out[0].
+ *     refusal          `out` is unchanged, except that a refusal which names a place puts it into out[0]: 5 to 7 the
+ *                      number of a clause, 8 that of a variable, 15 to 20 that of a line, each counted from 0.
  *
  * Refusals of the rule file, by every function:
  *    1  length not a multiple of 4, under 16 or over 65,536 bytes
@@ -19,16 +20,16 @@
  *    3  more than 32 variables or more than 1,024 clauses
  *    4  the prefix does not end where the trailer begins
  *    5  a clause reaches past the prefix start or has more literals than there are variables, or the clauses do not end
- *       at the prefix start
- *    6  a literal out of range
- *    7  a variable twice in one clause
- *    8  a weight over 65,535, or one weight 0 and the other not
+ *       at the prefix start; out[0] is the first such clause, or the number of clauses where only the end is wrong
+ *    6  a literal out of range; out[0] is the first such clause
+ *    7  a variable twice in one clause; out[0] is the first such clause
+ *    8  a weight over 65,535, or one weight 0 and the other not; out[0] is the first such variable
  *    9  the whole is over 2^60
  * Refusals of the limits and the level:
  *   10  lo over hi
  *   11  hi over the whole
  *   12  the level is over the number of variables
- * Refusals of the derivation:
+ * Refusals of the derivation; for 15 to 20 out[0] is the first line at fault:
  *   13  length not a multiple of 4, under 12 or over 65,536 bytes
  *   14  the last word is not the word count, or more than 1,024 lines
  *   15  a line of neither kind, with more literals than there are variables or past the trailer's start, or lines that
@@ -74,7 +75,7 @@ uint32_t ssat_cut(const uint8_t *rule, size_t len, uint64_t level, uint64_t out[
 
 /* Checks a derivation over a rule file.
  * out: closing value, whole, 0, 0.
- * Refusals: 1 to 9 for the rule file, 13 to 21; 15 to 20 put the line into out[0]. */
+ * Refusals: 1 to 9 for the rule file, 13 to 21. */
 uint32_t ssat_check(const uint8_t *rule, size_t len, const uint8_t *derivation, size_t dlen, uint64_t out[4]);
 
 #ifdef __cplusplus

@@ -72,7 +72,7 @@ clause-bytes b (refused r) = []
 clause-bytes b (answer none) = []
 clause-bytes b (answer (some c)) = part b (c .start) (c .length)
 
--- document 01's number and values for each case of what the code answers
+-- the documents' refusal or values for each case of what the code answers
 abbrev pub placing : Cursor → Answer Place
 placing (cursor.Refused r) = refused r
 placing (cursor.At i j m) = answer (record { word = i; number = j; clauses = m })

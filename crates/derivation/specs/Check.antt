@@ -68,7 +68,7 @@ check-from-13 b d = refuse-if (wrong-length derivation-trailer d) 13 (refuse-if 
 unfoldable pub check-file : List ℕ → List ℕ → Answer Closing
 check-file b d = and-then (read-file b) (λ _. check-from-13 b d)
 
--- document 01's number and values for each case of what the code answers
+-- the documents' refusal or values for each case of what the code answers
 abbrev pub checking : Checking → Answer Closing
 checking (Refused r) = refused r
 checking (Accepted c) = answer c

@@ -8,14 +8,13 @@ use Prim.Native.Nat.{ℕ}
 use native.Mathlib.Omega.{arith}
 use Rattle.rule_file.specs.Limits.{rule-trailer}
 use Rattle.rule_file.specs.Answer.{Answer, refused, answer, refuse-if, refuse-at, and-then}
-use Rattle.rule_file.specs.RuleFile.{clauses, prefix}
 use Rattle.rule_file.specs.Reader.{reading, read-file, read-from-3, read-from-5, read-from-8}
 use Rattle.rule_file.specs.Accepted.{Accepted, header}
 use Rattle.rule_file.specs.declared.Header.{Header}
 use Rattle.rule_file.specs.declared.Refusal.{Refusal}
 use Rattle.rule_file.specs.declared.Reading.{Reading}
 use Rattle.rule_file.specs.declared.Reading.the-variants as reading-variants
-use Rattle.rule_file.proofs.WalkLaws.{found-first, found-none}
+use Rattle.rule_file.proofs.WalkLaws.{first-none, none-first-place}
 use Rattle.rule_file.proofs.WordsLaws.{right-length}
 use Rattle.rule_file.proofs.ReaderLaws.{check-2, check-3, check-4, check-9}
 
@@ -43,10 +42,10 @@ answered b h e =
     let (e₂, r₂) = passed _ _ _ h r₁ in
     let (e₃, r₃) = passed _ _ _ h r₂ in
     let (e₄, r₄) = passed _ _ _ h r₃ in
-    let (e₅, r₅) = passed _ _ _ h r₄ in
-    let (e₆, r₆) = passed _ _ _ h r₅ in
-    let (e₇, r₇) = passed _ _ _ h r₆ in
-    let (e₈, r₈) = passed _ _ _ h r₇ in
+    let (e₅, r₅) = passed-at _ _ _ h r₄ in
+    let (e₆, r₆) = passed-at _ _ _ h r₅ in
+    let (e₇, r₇) = passed-at _ _ _ h r₆ in
+    let (e₈, r₈) = passed-at _ _ _ h r₇ in
     let (e₉, r₉) = passed _ _ _ h r₈ in
     let counts = check-3 b .0 e₃ in (
       record {
@@ -55,10 +54,10 @@ answered b h e =
         few-variables = counts .0;
         few-clauses = counts .1;
         prefix-ends = check-4 b .0 e₄;
-        walked = found-none _ e₅;
-        in-range = sym (found-first _ (clauses b)) ∙ e₆;
-        no-repeats = sym (found-first _ (clauses b)) ∙ e₇;
-        well-formed = sym (found-first _ (prefix b)) ∙ e₈;
+        walked = e₅;
+        in-range = first-none _ _ e₆;
+        no-repeats = first-none _ _ e₇;
+        well-formed = first-none _ _ e₈;
         bounded = check-9 b .0 e₉;
       },
       cc,
@@ -73,9 +72,9 @@ accepted-answers b a =
       check-3 b .1 (a .few-variables, a .few-clauses),
       check-4 b .1 (a .prefix-ends),
       a .walked,
-      found-first _ (clauses b) ∙ a .in-range,
-      found-first _ (clauses b) ∙ a .no-repeats,
-      found-first _ (prefix b) ∙ a .well-formed,
+      none-first-place _ _ (a .in-range),
+      none-first-place _ _ (a .no-repeats),
+      none-first-place _ _ (a .well-formed),
       check-9 b .1 (a .bounded),
     )
 

@@ -3,7 +3,7 @@
 -- them; first places, as a loop counts them; and the walk. What fits and what an element is is said by the laws of
 -- clauses, of the prefix and of derivation lines. Assumes nothing.
 use mathlib.Core.Path.{_≡_, refl, sym, ap, ap₂, _∙_}
-use mathlib.Core.Bool.{Bool, true, false, true≢false, cond}
+use mathlib.Core.Bool.{Bool, true, false, cond}
 use mathlib.Core.List.{List, [], _∷_, _++_}
 use mathlib.Core.Option.{Option, none, some, Option·some-ne-none}
 use Prim.Native.Nat.{ℕ, zero, suc, _+_, _-_, _≤_, _<_}
@@ -15,7 +15,7 @@ use lib.ListN.{length, getD, take, drop}
 use borrow.Author.Tests.{eq-eqb, ne-eqb}
 use Rattle.formula.specs.Formula.{some-of}
 use Rattle.formula.proofs.SomeLaws.{none-first, none-rest}
-use Rattle.rule_file.specs.Walk.{start, elements, found, later, first, walk}
+use Rattle.rule_file.specs.Walk.{start, elements, later, first, walk}
 
 -- Where elements stand
 
@@ -104,33 +104,38 @@ module _ (next : ℕ → ℕ) where
 
 -- First places
 
-pub found-later : (o : Option ℕ) → found (later o) ≡ found o
-found-later none = refl
-found-later (some j) = refl
-
 pub later-none : (o : Option ℕ) → later o ≡ none → o ≡ none
 later-none none e = refl
-later-none (some j) e = absurd (true≢false (ap found e))
+later-none (some j) e = absurd (Option·some-ne-none _ e)
 
-pub found-none : (o : Option ℕ) → found o ≡ false → o ≡ none
-found-none none e = refl
-found-none (some i) e = absurd (true≢false e)
+module _ {A : Type 0} (f : A → Bool) where
+  first-passes : (x : A) (xs : List A) → f x ≡ true → first f (x ∷ xs) ≡ some 0
+  unfolding first
+  first-passes x xs t = rw (t, first)
 
--- a first place is found where some element passes
-pub found-first : {A : Type 0} (f : A → Bool) (xs : List A) → found (first f xs) ≡ some-of f xs
-unfolding first some-of
-found-first f [] = refl
-found-first f (x ∷ xs) = go (f x) refl (found-first f xs)
-  where
-    go : (t : Bool) → f x ≡ t → found (first f xs) ≡ some-of f xs → found (first f (x ∷ xs)) ≡ some-of f (x ∷ xs)
-    go true e h = rw (e, first)
-    go false e h = rw (e, first) (found-later (first f xs) ∙ h)
+  first-fails : (x : A) (xs : List A) → f x ≡ false → first f (x ∷ xs) ≡ later (first f xs)
+  unfolding first
+  first-fails x xs t = rw (t, first)
 
-pub first-none : {A : Type 0} (f : A → Bool) (xs : List A) → first f xs ≡ none → some-of f xs ≡ false
-first-none f xs e = sym (found-first f xs) ∙ ap found e
+  none-here : (x : A) (xs : List A) → first f (x ∷ xs) ≡ none → f x ≡ false
+  none-here x xs e = go (f x) refl
+    where
+      go : (t : Bool) → f x ≡ t → f x ≡ false
+      go false t = t
+      go true t = absurd (Option·some-ne-none 0 (sym (first-passes x xs t) ∙ e))
 
-pub none-first-place : {A : Type 0} (f : A → Bool) (xs : List A) → some-of f xs ≡ false → first f xs ≡ none
-none-first-place f xs e = found-none (first f xs) (found-first f xs ∙ e)
+  -- nothing is found exactly where no element passes
+  pub first-none : (xs : List A) → first f xs ≡ none → some-of f xs ≡ false
+  unfolding some-of
+  first-none [] e = refl
+  first-none (x ∷ xs) e =
+      let t = none-here x xs e in
+      rw t (first-none xs (later-none _ (sym (first-fails x xs t) ∙ e)))
+
+  pub none-first-place : (xs : List A) → some-of f xs ≡ false → first f xs ≡ none
+  unfolding first
+  none-first-place [] e = refl
+  none-first-place (x ∷ xs) e = first-fails x xs (none-first f x xs e) ∙ ap later (none-first-place xs (none-rest f x xs e))
 
 -- what is found in the rest, counted from k
 unfoldable pub from : ℕ → Option ℕ → Option ℕ
@@ -154,12 +159,10 @@ from-later k (some i) = ap some (omega arith)
 -- the first element that passes, one element at a time: ys is what is left
 module _ {A : Type 0} (f : A → Bool) (k : ℕ) {x : A} {xs ys : List A} where
   pub first-here : ys ≡ x ∷ xs → f x ≡ true → from k (first f ys) ≡ some k
-  unfolding first
-  first-here e t = rw (e, t, first) (from-here k)
+  first-here e t = rw (e, first-passes f x xs t) (from-here k)
 
   pub first-later : ys ≡ x ∷ xs → f x ≡ false → from (k + 1) (first f xs) ≡ from k (first f ys)
-  unfolding first
-  first-later e t = rw (e, t, first) (sym (from-later k (first f xs)))
+  first-later e t = rw (e, first-fails f x xs t) (sym (from-later k (first f xs)))
 
 pub first-over : {A : Type 0} (f : A → Bool) (k : ℕ) {ys : List A} → ys ≡ [] → from k (first f ys) ≡ none
 unfolding first from

@@ -1,5 +1,5 @@
--- What an operation answers: a refusal, with its number and the place where document 01 names one, or the values.
--- Assumes nothing.
+-- What an operation answers: a refusal, with its number and, where the documents name one, the place: a clause, a
+-- variable or a line; or the values. Assumes nothing.
 use Prim.Native.Nat.{ℕ}
 use mathlib.Core.Bool.{Bool, true, false}
 use mathlib.Core.Option.{Option, none, some}
@@ -25,7 +25,7 @@ abbrev pub and-then : {A B : Type 0} → Answer A → (A → Answer B) → Answe
 and-then (refused r) f = refused r
 and-then (answer x) f = f x
 
--- document 01's number of a refusal, and its place
+-- the documents' number of a refusal, and its place
 abbrev pub number-of : Refusal → ℕ
 number-of (refusal.Alone k) = k
 number-of (refusal.At k i) = k

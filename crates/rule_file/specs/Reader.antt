@@ -1,5 +1,5 @@
 -- The reader's answer for every file: document 01's checks 1 to 9 in their order, each over the whole file before the
--- next. Assumes nothing. A check over clauses or variables gives the first place that fails.
+-- next. 5, 6 and 7 name the first clause at fault, and 8 the first variable. Assumes nothing.
 use Prim.Native.Nat.{ℕ, _+_, _-_, _*_}
 use mathlib.Core.Bool.{Bool, false, not, _&&_, _||_}
 use mathlib.Core.List.{List}
@@ -8,10 +8,10 @@ use lib.Dec.{leb, ltb, eqb}
 use Rattle.formula.specs.Formula.{out-of-range, repeats}
 use Rattle.formula.specs.Quantifier.{Quantifier, existential, randomized}
 use Rattle.rule_file.specs.Limits.{rule-trailer, max-variables, max-clauses, max-weight, max-whole}
-use Rattle.rule_file.specs.Walk.{found, first, walk}
+use Rattle.rule_file.specs.Walk.{first, walk}
 use Rattle.rule_file.specs.Words.{word, word-count, wrong-length, stated-count}
 use Rattle.rule_file.specs.RuleFile.{clause-count, variable-count, prefix-start, after-clause, clauses, prefix, whole}
-use Rattle.rule_file.specs.Answer.{Answer, refused, answer, refuse-if}
+use Rattle.rule_file.specs.Answer.{Answer, refused, answer, refuse-if, refuse-at}
 use Rattle.rule_file.specs.declared.Header.{Header}
 use Rattle.rule_file.specs.declared.Reading.{Reading}
 use Rattle.rule_file.specs.declared.Reading.the-variants.{Refused, Accepted}
@@ -49,25 +49,25 @@ too-large b = ltb max-whole (whole b)
 -- the checks from 9 back to 1
 unfoldable pub read-from-8 : List ℕ → Answer Header
 read-from-8 b =
-    refuse-if (found (first malformed (prefix b))) 8
+    refuse-at (first malformed (prefix b)) 8
     (refuse-if (too-large b) 9
     (answer (record { variables = variable-count b; clauses = clause-count b; prefix = prefix-start b; whole = whole b })))
 
 unfoldable pub read-from-5 : List ℕ → Answer Header
 read-from-5 b =
-    refuse-if (found (walk-clauses b (variable-count b) (prefix-start b) (clause-count b) 0)) 5
-    (refuse-if (found (first (out-of-range (variable-count b)) (clauses b))) 6
-    (refuse-if (found (first repeats (clauses b))) 7
+    refuse-at (walk-clauses b (variable-count b) (prefix-start b) (clause-count b) 0) 5
+    (refuse-at (first (out-of-range (variable-count b)) (clauses b)) 6
+    (refuse-at (first repeats (clauses b)) 7
     (read-from-8 b)))
 
 unfoldable pub read-from-3 : List ℕ → Answer Header
 read-from-3 b = refuse-if (too-many b) 3 (refuse-if (wrong-prefix b) 4 (read-from-5 b))
 
--- the reader's answer: n, m, the prefix's start and the whole, or a refusal's number
+-- the reader's answer: n, m, the prefix's start and the whole, or a refusal
 unfoldable pub read-file : List ℕ → Answer Header
 read-file b = refuse-if (wrong-length rule-trailer b) 1 (refuse-if (wrong-count b) 2 (read-from-3 b))
 
--- document 01's number and values for each case of what the code answers
+-- the documents' refusal or values for each case of what the code answers
 abbrev pub reading : Reading → Answer Header
 reading (Refused r) = refused r
 reading (Accepted h) = answer h

@@ -16,11 +16,6 @@ unfoldable pub elements : {A : Type 0} → (ℕ → ℕ) → (ℕ → A) → ℕ
 elements next at zero i = []
 elements next at (suc left) i = at i ∷ elements next at left (next i)
 
--- whether a search found a place
-abbrev pub found : Option ℕ → Bool
-found none = false
-found (some i) = true
-
 -- a place counted from one element earlier
 abbrev pub later : Option ℕ → Option ℕ
 later none = none

@@ -1,8 +1,8 @@
-// Runs document 01's samples. Standard input is a row of records: the operation (1 read, 2 figure, 3 verdict, 4 cut,
+// Runs the stored samples. Standard input is a row of records: the operation (1 read, 2 figure, 3 verdict, 4 cut,
 // 5 check, 6 clause reader), a 32-bit word; the verdict's two limits, or the cut's level and 0, two words each; the
 // lengths of the rule file and of the derivation, a word each; then the two files. Each record is answered by a line:
-// the refusal's number, with the line of the derivation where one is given, or 0 and the values. The clause reader's
-// values are the length and the literals of each clause, and `none` where no clause is left.
+// the refusal's number, with the clause, variable or line at fault where one is given, or 0 and the values. The clause
+// reader's values are the length and the literals of each clause, and `none` where no clause is left.
 use bounds::Cutting;
 use bounds::cut;
 use clause_reader::cursor::Cursor;

@@ -1,4 +1,5 @@
--- All that the program prints for document 01's example file. Assumes nothing.
+-- All that the program prints for document 01's example file, and for a file that is refused with a place. Assumes
+-- nothing.
 use mathlib.Core.Path.{_≡_, refl}
 use Rattle.formula.specs.Formula.{literal-status, clause-status, formula-status, some-of, out-of-range, repeats}
 use Rattle.formula.specs.Quantifier.{denominator}
@@ -9,8 +10,8 @@ use Rattle.rule_file.specs.Walk.{elements, first, walk}
 use Rattle.rule_file.specs.Words.{word, wrong-length}
 use Rattle.rule_file.specs.RuleFile.{quantifier}
 use Rattle.rule_file.specs.Reader.{wrong-count, too-many, wrong-prefix, clause-fits, malformed, too-large, read-from-8, read-from-5, read-from-3, read-file}
-use Rattle.report.specs.Report.{cut-line, cut-lines, head-text, accepted-text, report-text}
-use Rattle.samples.specs.Samples.{example}
+use Rattle.report.specs.Report.{refusal-line, cut-line, cut-lines, head-text, accepted-text, report-text}
+use Rattle.samples.specs.Samples.{example, variable-twice}
 
 pub example-text :
     report-text (bytes-of example)
@@ -20,3 +21,9 @@ unfolding report-text accepted-text head-text cut-lines cut-line line after-blan
     elements word quantifier out-of-range repeats some-of
     denominator value evaluate literal-status clause-status formula-status
 example-text = refl
+
+pub refusal-text : report-text (bytes-of variable-twice) ≡ ascii "refused 7 1\n"
+unfolding report-text refusal-line line after-blanks decimal decimal-by ascii bytes-of word-bytes
+    read-file read-from-3 read-from-5 wrong-length wrong-count too-many wrong-prefix walk clause-fits first
+    elements word out-of-range repeats some-of
+refusal-text = refl

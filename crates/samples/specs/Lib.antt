@@ -1,2 +1,2 @@
--- Document 01's proved samples.
+-- The documents' proved samples.
 pub mod Samples

@@ -1,9 +1,10 @@
--- Document 01's samples P1 to P12 in one list: each a question to an operation, and the answer that it must give.
--- Assumes nothing.
+-- Document 01's samples P1 to P12, and the places that document 02 (i) adds to refusals, in one list: each a question
+-- to an operation, and the answer that it must give. Assumes nothing.
 use mathlib.Core.List.{List, [], _∷_}
 use Prim.Native.Nat.{ℕ}
 use Rattle.buffer.specs.Bytes.{bytes-of}
-use Rattle.rule_file.specs.Answer.{Answer, answer}
+use Rattle.rule_file.specs.Answer.{Answer, refused, answer}
+use Rattle.rule_file.specs.declared.Refusal.the-variants.{At}
 use Rattle.value.specs.declared.Ratio.{Ratio}
 use Rattle.value.specs.Value.{figure-file, Verdict, above, below, within, verdict-file}
 use Rattle.bounds.specs.declared.Bounds.{Bounds}
@@ -34,6 +35,10 @@ ask (check ws ds) = checked (check-file (bytes-of ws) (bytes-of ds))
 abbrev out-of : ℕ → ℕ → Outcome
 out-of x w = figured (answer (record { figure = x; whole = w }))
 
+-- a refusal of number k that names the clause or variable i
+abbrev refused-at : ℕ → ℕ → Outcome
+refused-at k i = figured (refused (At k i))
+
 pub record Sample : Type 0 where
   pub question : Question
   pub outcome : Outcome
@@ -54,6 +59,10 @@ derivation =
     2 ∷ 1 ∷ 0 ∷ 0 ∷ 0 ∷ 1 ∷ 2 ∷ 0 ∷
     2 ∷ 0 ∷ 12 ∷ 0 ∷ 0 ∷ 5 ∷ 7 ∷
     5 ∷ 9 ∷ 42 ∷ []
+
+-- clauses {0} and {2, 3} over two choices: variable 1 stands twice in clause 1
+abbrev pub variable-twice : List ℕ
+variable-twice = 1 ∷ 0 ∷ 2 ∷ 2 ∷ 3 ∷ 0 ∷ 0 ∷ 0 ∷ 0 ∷ 2 ∷ 2 ∷ 5 ∷ 13 ∷ []
 
 unfoldable pub samples : List Sample
 samples =
@@ -79,4 +88,14 @@ samples =
     sample (cut example 2) (bounded (answer (record { lower = 0; upper = 40; undetermined = 40 }))) ∷
     -- P12: its derivation
     sample (check example derivation) (checked (answer (record { value = 12; whole = 50 }))) ∷
+    -- 5: clause 1 has two literals over one variable; clause 2 stands past the prefix start; the walk ends before it
+    sample (figure (1 ∷ 0 ∷ 2 ∷ 0 ∷ 1 ∷ 0 ∷ 0 ∷ 2 ∷ 1 ∷ 5 ∷ 11 ∷ [])) (refused-at 5 1) ∷
+    sample (figure (1 ∷ 0 ∷ 1 ∷ 1 ∷ 0 ∷ 0 ∷ 3 ∷ 1 ∷ 4 ∷ 10 ∷ [])) (refused-at 5 2) ∷
+    sample (figure (1 ∷ 0 ∷ 1 ∷ 1 ∷ 0 ∷ 0 ∷ 1 ∷ 1 ∷ 4 ∷ 10 ∷ [])) (refused-at 5 1) ∷
+    -- 6: clauses {0}, {2} and {3} over one variable
+    sample (figure (1 ∷ 0 ∷ 1 ∷ 2 ∷ 1 ∷ 3 ∷ 0 ∷ 0 ∷ 3 ∷ 1 ∷ 6 ∷ 12 ∷ [])) (refused-at 6 1) ∷
+    -- 7
+    sample (figure variable-twice) (refused-at 7 1) ∷
+    -- 8: weights 0:0, 0:1 and 1:0
+    sample (figure (0 ∷ 0 ∷ 0 ∷ 1 ∷ 1 ∷ 0 ∷ 0 ∷ 3 ∷ 0 ∷ 10 ∷ [])) (refused-at 8 1) ∷
     []

@@ -11,12 +11,12 @@ use Rattle.value.specs.Value.{Verdict, above, below, within}
 use Rattle.bounds.specs.declared.Bounds.{Bounds}
 use Rattle.derivation.specs.declared.Closing.{Closing}
 
--- 0 for an answer, else document 01's number
+-- 0 for an answer, else the refusal's number
 abbrev pub code : {A : Type 0} → Answer A → ℕ
 code (refused r) = number-of r
 code (answer x) = 0
 
--- out afterwards: an answer's four numbers; a refusal leaves it, and stores the place alone where document 01 names one
+-- out afterwards: an answer's four numbers; a refusal leaves it, and stores the place alone where it names one
 abbrev pub placed : Option ℕ → List ℕ → List ℕ
 placed none out = out
 placed (some i) out = set out 0 i

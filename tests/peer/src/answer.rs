@@ -2,14 +2,14 @@
 
 use crate::derivation;
 use crate::enumerate;
-use crate::rules::{self, Rules};
+use crate::rules::{self, Fault, Rules};
 use crate::tables::Tables;
 
 /// With at most this many variables the answers come from full enumeration.
 pub const SMALL: usize = 7;
 
-/// A return value, and the numbers that go to `out` from index 0: the answer's for 0, the
-/// line's for 15 to 20, else none.
+/// A return value, and the numbers that go to `out` from index 0: the answer's for 0, the place of a
+/// refusal that has one, else none.
 #[derive(Clone, Debug, PartialEq, Eq)]
 pub struct Answer {
     pub code: u32,
@@ -17,8 +17,8 @@ pub struct Answer {
 }
 
 impl Answer {
-    pub fn refused(code: u32) -> Answer {
-        Answer { code, numbers: Vec::new() }
+    pub fn refused((code, place): Fault) -> Answer {
+        Answer { code, numbers: place.map(|place| place as u64).into_iter().collect() }
     }
 
     pub fn numbers(numbers: &[u128]) -> Answer {
@@ -37,12 +37,12 @@ impl Answer {
 
 /// Answers for one rule file.
 pub struct Solver<'a> {
-    rules: &'a Result<Rules, u32>,
+    rules: &'a Result<Rules, Fault>,
     tables: Option<Tables<'a>>,
 }
 
 impl<'a> Solver<'a> {
-    pub fn new(rules: &'a Result<Rules, u32>) -> Solver<'a> {
+    pub fn new(rules: &'a Result<Rules, Fault>) -> Solver<'a> {
         let tables = match rules {
             Ok(rules) if rules.n() > SMALL => Some(Tables::new(rules)),
             _ => None,
@@ -72,7 +72,7 @@ impl<'a> Solver<'a> {
     fn with(&self, answer: impl FnOnce(&Rules) -> Answer) -> Answer {
         match self.rules {
             Ok(rules) => answer(rules),
-            Err(number) => Answer::refused(*number),
+            Err(fault) => Answer::refused(*fault),
         }
     }
 
@@ -91,10 +91,10 @@ impl<'a> Solver<'a> {
         self.with(|rules| {
             let (lo, hi) = (u128::from(lo), u128::from(hi));
             if lo > hi {
-                return Answer::refused(10);
+                return Answer::refused((10, None));
             }
             if hi > rules.whole() {
-                return Answer::refused(11);
+                return Answer::refused((11, None));
             }
             let value = self.value(rules);
             if value > hi {
@@ -110,7 +110,7 @@ impl<'a> Solver<'a> {
     pub fn cut(&self, level: u64) -> Answer {
         self.with(|rules| {
             if level > rules.n() as u64 {
-                return Answer::refused(12);
+                return Answer::refused((12, None));
             }
             let level = level as usize;
             Answer::numbers(&match &self.tables {
@@ -123,7 +123,7 @@ impl<'a> Solver<'a> {
     pub fn check(&self, bytes: &[u8]) -> Answer {
         self.with(|rules| match derivation::check(rules, bytes) {
             Ok(value) => Answer::numbers(&[value, rules.whole()]),
-            Err((code, line)) => Answer { code, numbers: line.map(|line| line as u64).into_iter().collect() },
+            Err(fault) => Answer::refused(fault),
         })
     }
 }
@@ -137,7 +137,7 @@ pub fn answer(rule: &[u8], operation: impl FnOnce(&Solver) -> Answer) -> Answer 
 pub fn clauses(rule: &[u8]) -> Answer {
     let clauses = match rules::clauses(rule) {
         Ok(clauses) => clauses,
-        Err(number) => return Answer::refused(number),
+        Err(fault) => return Answer::refused(fault),
     };
     let mut numbers = Vec::new();
     for clause in &clauses {

@@ -1,10 +1,7 @@
 //! The derivation checker: refusals 13 to 21, in order.
 
-use crate::rules::{set_of, Rules};
+use crate::rules::{set_of, Fault, Rules};
 use crate::{level, opposites, to_words, Literals};
-
-/// A refusal's number, with the line for 15 to 20.
-pub type Fault = (u32, Option<usize>);
 
 /// One line as it stands in the file.
 struct Line<'a> {

@@ -2,6 +2,9 @@
 
 use crate::{to_words, Literals};
 
+/// A refusal's number, with the clause for 5 to 7, the variable for 8 and the line for 15 to 20.
+pub type Fault = (u32, Option<usize>);
+
 /// The largest whole.
 pub const LARGEST_WHOLE: u128 = 1 << 60;
 
@@ -52,55 +55,55 @@ impl Rules {
     }
 }
 
-/// Reads a rule file or gives the number of its refusal.
-pub fn read(bytes: &[u8]) -> Result<Rules, u32> {
+/// Reads a rule file or gives its refusal.
+pub fn read(bytes: &[u8]) -> Result<Rules, Fault> {
     if !bytes.len().is_multiple_of(4) || bytes.len() < 16 || bytes.len() > 65_536 {
-        return Err(1);
+        return Err((1, None));
     }
     let words = to_words(bytes);
     let (body, trailer) = words.split_at(words.len() - 4);
     let [m, n, start, count] = [trailer[0], trailer[1], trailer[2], trailer[3]];
     if count as usize != words.len() {
-        return Err(2);
+        return Err((2, None));
     }
     if n > 32 || m > 1_024 {
-        return Err(3);
+        return Err((3, None));
     }
     if u64::from(start) + 2 * u64::from(n) != body.len() as u64 {
-        return Err(4);
+        return Err((4, None));
     }
 
     let (mut left, pairs) = body.split_at(start as usize);
     let mut lists = Vec::new();
-    for _ in 0..m {
+    for clause in 0..m as usize {
         let Some((&k, after)) = left.split_first() else {
-            return Err(5);
+            return Err((5, Some(clause)));
         };
         if k > n || k as usize > after.len() {
-            return Err(5);
+            return Err((5, Some(clause)));
         }
         let (literals, after) = after.split_at(k as usize);
         lists.push(literals);
         left = after;
     }
     if !left.is_empty() {
-        return Err(5);
+        return Err((5, Some(m as usize)));
     }
 
-    if lists.iter().any(|list| list.iter().any(|&literal| literal >= 2 * n)) {
-        return Err(6);
+    if let Some(clause) = lists.iter().position(|list| list.iter().any(|&literal| literal >= 2 * n)) {
+        return Err((6, Some(clause)));
     }
     let mut clauses = Vec::new();
-    for list in &lists {
-        clauses.push(set_of(list).ok_or(7u32)?);
+    for (clause, list) in lists.iter().enumerate() {
+        clauses.push(set_of(list).ok_or((7, Some(clause)))?);
     }
 
     let mut prefix = Vec::new();
-    for pair in pairs.chunks_exact(2) {
+    for (variable, pair) in pairs.chunks_exact(2).enumerate() {
         prefix.push(match (pair[0], pair[1]) {
             (0, 0) => Quantifier::Existential,
             (a @ 1..=65_535, b @ 1..=65_535) => Quantifier::Randomized { if_true: a.into(), if_false: b.into() },
-            _ => return Err(8),
+            _ => return Err((8, Some(variable))),
         });
     }
 
@@ -109,7 +112,7 @@ pub fn read(bytes: &[u8]) -> Result<Rules, u32> {
         // Every total is at least 1, so the product never falls again.
         let product = rest[rest.len() - 1] * quantifier.total();
         if product > LARGEST_WHOLE {
-            return Err(9);
+            return Err((9, None));
         }
         rest.push(product);
     }
@@ -132,8 +135,8 @@ pub fn set_of(list: &[u32]) -> Option<Literals> {
     Some(set)
 }
 
-/// The clauses of a rule file in order, each with its literals as they stand, or the number of the file's refusal.
-pub fn clauses(bytes: &[u8]) -> Result<Vec<Vec<u32>>, u32> {
+/// The clauses of a rule file in order, each with its literals as they stand, or the file's refusal.
+pub fn clauses(bytes: &[u8]) -> Result<Vec<Vec<u32>>, Fault> {
     let rules = read(bytes)?;
     let mut words = to_words(bytes).into_iter();
     let mut clauses = Vec::new();

@@ -1,4 +1,4 @@
-//! Document 01's run samples, each with the answer that its rules give, derived by hand.
+//! The run samples, each with the answer that documents 01 and 02 give, derived by hand.
 //! The tests hold the peer and the proved solver to these answers.
 //!
 //! The program `run_samples` reads them from its standard input as records, one after another. A record is a head of
@@ -13,8 +13,8 @@
 //! | 6 | the length of the derivation in bytes; 0 for any operation but 5 |
 //!
 //! Then come the bytes of the rule file and those of the derivation. It answers each record by a line, closed by a line
-//! feed. A refusal is its number, with a blank and the line of the derivation where one is given. An answer begins with
-//! `0`; each further word or number stands after one blank, numbers in decimal:
+//! feed. A refusal is its number, with a blank and the clause, variable or line at fault where one is given. An answer
+//! begins with `0`; each further word or number stands after one blank, numbers in decimal:
 //!
 //! | Operation | Line |
 //! |---|---|
@@ -45,15 +45,16 @@ impl List {
         self.add(name, &to_bytes(words), Operation::Read, code, numbers);
     }
 
-    /// A refusal of the rule file, told by every operation.
-    fn refused(&mut self, name: &str, words: &[u32], code: u32) {
+    /// A refusal of the rule file, with its place if it has one, told by every operation.
+    fn refused(&mut self, name: &str, words: &[u32], code: u32, place: &[u64]) {
         let derivation = sample().1.bytes();
-        self.read(name, words, code, &[]);
+        self.read(name, words, code, place);
         let rule = to_bytes(words);
-        self.add(format!("{name}-figure"), &rule, Operation::Figure, code, &[]);
-        self.add(format!("{name}-verdict"), &rule, Operation::Verdict(2, 1), code, &[]);
-        self.add(format!("{name}-cut"), &rule, Operation::Cut(40), code, &[]);
-        self.add(format!("{name}-check"), &rule, Operation::Check(derivation), code, &[]);
+        self.add(format!("{name}-figure"), &rule, Operation::Figure, code, place);
+        self.add(format!("{name}-verdict"), &rule, Operation::Verdict(2, 1), code, place);
+        self.add(format!("{name}-cut"), &rule, Operation::Cut(40), code, place);
+        self.add(format!("{name}-check"), &rule, Operation::Check(derivation), code, place);
+        self.add(format!("{name}-clauses"), &rule, Operation::Clauses, code, place);
     }
 
     fn figure(&mut self, name: &str, rule: &RuleDraft, value: u64, whole: u64) {
@@ -73,6 +74,7 @@ pub fn cases() -> Vec<Case> {
     let mut list = List::default();
     sample_file(&mut list);
     readings(&mut list);
+    places(&mut list);
     orders(&mut list);
     wholes(&mut list);
     levels_and_limits(&mut list);
@@ -129,7 +131,7 @@ fn readings(list: &mut List) {
     // 1: length.
     let empty = [0, 0, 0, 4];
     list.read("length-16", &empty, 0, &[0, 0, 0, 1]);
-    list.refused("length-12", &[0, 0, 3], 1);
+    list.refused("length-12", &[0, 0, 3], 1, &[]);
     for len in [0, 15, 17, 18, 19] {
         let mut bytes = to_bytes(&empty);
         bytes.resize(len, 0);
@@ -143,74 +145,74 @@ fn readings(list: &mut List) {
 
     // 2: the word count.
     let words = sample().0.words();
-    list.refused("count-less", &with(&words, 17, 17), 2);
-    list.refused("count-more", &with(&words, 17, 19), 2);
-    list.refused("count-2^31", &with(&words, 17, 18 + (1 << 31)), 2);
+    list.refused("count-less", &with(&words, 17, 17), 2, &[]);
+    list.refused("count-more", &with(&words, 17, 19), 2, &[]);
+    list.refused("count-2^31", &with(&words, 17, 18 + (1 << 31)), 2, &[]);
 
     // 3: n and m.
     let all = |n: usize, pair| RuleDraft { clauses: Vec::new(), prefix: vec![pair; n] };
     list.read("n-32", &all(32, [0, 0]).words(), 0, &[32, 0, 0, 1]);
     list.figure("n-32-figure", &all(32, [0, 0]), 1, 1);
-    list.refused("n-33", &all(33, [0, 0]).words(), 3);
-    list.refused("n-2^31", &[0, 1 << 31, 0, 4], 3);
+    list.refused("n-33", &all(33, [0, 0]).words(), 3, &[]);
+    list.refused("n-2^31", &[0, 1 << 31, 0, 4], 3, &[]);
     let many = |m: usize| RuleDraft { clauses: vec![Vec::new(); m], prefix: Vec::new() };
     list.read("m-1024", &many(1_024).words(), 0, &[0, 1_024, 1_024, 1]);
     list.figure("m-1024-figure", &many(1_024), 0, 1);
-    list.refused("m-1025", &many(1_025).words(), 3);
-    list.refused("m-2^32-1", &[u32::MAX, 0, 0, 4], 3);
+    list.refused("m-1025", &many(1_025).words(), 3, &[]);
+    list.refused("m-2^32-1", &[u32::MAX, 0, 0, 4], 3, &[]);
 
     // 4: the prefix start.
-    list.refused("start-less", &with(&words, 16, 7), 4);
-    list.refused("start-more", &with(&words, 16, 9), 4);
-    list.refused("start-2^31", &with(&words, 16, 8 + (1 << 31)), 4);
+    list.refused("start-less", &with(&words, 16, 7), 4, &[]);
+    list.refused("start-more", &with(&words, 16, 9), 4, &[]);
+    list.refused("start-2^31", &with(&words, 16, 8 + (1 << 31)), 4, &[]);
     // 2^32 - 2, plus 2n, is 0 modulo 2^32: the place of the trailer.
-    list.refused("start-wraps", &[0, 1, u32::MAX - 1, 4], 4);
-    list.refused("start-n-more", &with(&words, 15, 4), 4);
+    list.refused("start-wraps", &[0, 1, u32::MAX - 1, 4], 4, &[]);
+    list.refused("start-n-more", &with(&words, 15, 4), 4, &[]);
 
     // 5: the walk over the clauses. One clause {0, 2} over two variables, k = n.
     let pair = [2, 0, 2, 0, 0, 0, 0, 1, 2, 3, 11];
     list.read("clause-k-n", &pair, 0, &[2, 1, 3, 1]);
-    list.refused("clause-reaches-one-past", &with(&pair, 0, 3), 5);
-    list.refused("clause-reaches-far", &with(&pair, 0, u32::MAX), 5);
-    list.refused("clause-reaches-wrapping", &with(&pair, 0, u32::MAX - 1), 5);
+    list.refused("clause-reaches-one-past", &with(&pair, 0, 3), 5, &[0]);
+    list.refused("clause-reaches-far", &with(&pair, 0, u32::MAX), 5, &[0]);
+    list.refused("clause-reaches-wrapping", &with(&pair, 0, u32::MAX - 1), 5, &[0]);
     // Clause {0, ..}, k = n, of two words before the prefix; a second clause that is the prefix's first word, 0.
-    list.refused("clause-reaches-past-k-n", &[2, 0, 0, 0, 0, 0, 1, 2, 2, 10], 5);
-    list.refused("clause-empty-in-prefix", &with(&pair, 7, 2), 5);
+    list.refused("clause-reaches-past-k-n", &[2, 0, 0, 0, 0, 0, 1, 2, 2, 10], 5, &[0]);
+    list.refused("clause-empty-in-prefix", &with(&pair, 7, 2), 5, &[1]);
     // Three literals over two variables, where they fit: k over n, not a variable twice.
-    list.refused("clause-k-over-n", &[3, 0, 2, 0, 0, 0, 0, 0, 1, 2, 4, 12], 5);
+    list.refused("clause-k-over-n", &[3, 0, 2, 0, 0, 0, 0, 0, 1, 2, 4, 12], 5, &[0]);
     // Clause {0} of one word less than there is.
-    list.refused("walk-ends-early", &with(&pair, 0, 1), 5);
-    list.refused("walk-m-less", &with(&words, 14, 2), 5);
-    list.refused("walk-m-more", &with(&words, 14, 4), 5);
-    list.refused("walk-m-1024", &with(&words, 14, 1_024), 5);
-    list.refused("walk-m-0", &with(&words, 14, 0), 5);
+    list.refused("walk-ends-early", &with(&pair, 0, 1), 5, &[1]);
+    list.refused("walk-m-less", &with(&words, 14, 2), 5, &[2]);
+    list.refused("walk-m-more", &with(&words, 14, 4), 5, &[3]);
+    list.refused("walk-m-1024", &with(&words, 14, 1_024), 5, &[3]);
+    list.refused("walk-m-0", &with(&words, 14, 0), 5, &[0]);
 
     // 6: literals. The highest of two variables is 3.
     list.read("literal-2n-1", &with(&pair, 2, 3), 0, &[2, 1, 3, 1]);
-    list.refused("literal-2n", &with(&pair, 2, 4), 6);
-    list.refused("literal-2^32-1", &with(&pair, 2, u32::MAX), 6);
-    list.refused("literal-n-0", &[1, 0, 1, 0, 2, 6], 5);
+    list.refused("literal-2n", &with(&pair, 2, 4), 6, &[0]);
+    list.refused("literal-2^32-1", &with(&pair, 2, u32::MAX), 6, &[0]);
+    list.refused("literal-n-0", &[1, 0, 1, 0, 2, 6], 5, &[0]);
 
     // 7: a variable twice.
-    list.refused("variable-twice-same", &with(&pair, 2, 0), 7);
-    list.refused("variable-twice-opposite", &with(&pair, 2, 1), 7);
+    list.refused("variable-twice-same", &with(&pair, 2, 0), 7, &[0]);
+    list.refused("variable-twice-opposite", &with(&pair, 2, 1), 7, &[0]);
     let rule = RuleDraft::new(&[&[4, 2, 0], &[0, 2, 5]], &[[0, 0]; 3]);
     list.read("variable-in-two-clauses", &rule.words(), 0, &[3, 2, 8, 1]);
     let rule = RuleDraft::new(&[&[4, 2, 0], &[0, 2, 1]], &[[0, 0]; 3]);
-    list.refused("variable-twice-apart", &rule.words(), 7);
+    list.refused("variable-twice-apart", &rule.words(), 7, &[1]);
 
     // 8: weights.
     let one = |pair| RuleDraft { clauses: vec![vec![0]], prefix: vec![pair] };
     list.figure("weight-true-65535", &one([65_535, 1]), 65_535, 65_536);
     list.figure("weight-false-65535", &one([1, 65_535]), 1, 65_536);
     list.figure("weight-both-65535", &one([65_535, 65_535]), 65_535, 131_070);
-    list.refused("weight-true-65536", &one([65_536, 1]).words(), 8);
-    list.refused("weight-false-65536", &one([1, 65_536]).words(), 8);
-    list.refused("weight-both-65536", &one([65_536, 65_536]).words(), 8);
-    list.refused("weight-true-0", &one([0, 1]).words(), 8);
-    list.refused("weight-false-0", &one([1, 0]).words(), 8);
-    list.refused("weight-0-65536", &one([0, 65_536]).words(), 8);
-    list.refused("weight-2^32-1", &one([u32::MAX, u32::MAX]).words(), 8);
+    list.refused("weight-true-65536", &one([65_536, 1]).words(), 8, &[0]);
+    list.refused("weight-false-65536", &one([1, 65_536]).words(), 8, &[0]);
+    list.refused("weight-both-65536", &one([65_536, 65_536]).words(), 8, &[0]);
+    list.refused("weight-true-0", &one([0, 1]).words(), 8, &[0]);
+    list.refused("weight-false-0", &one([1, 0]).words(), 8, &[0]);
+    list.refused("weight-0-65536", &one([0, 65_536]).words(), 8, &[0]);
+    list.refused("weight-2^32-1", &one([u32::MAX, u32::MAX]).words(), 8, &[0]);
 
     // 9: the whole. See also `wholes`.
     let thirty = |pair| {
@@ -219,10 +221,74 @@ fn readings(list: &mut List) {
         RuleDraft { clauses: Vec::new(), prefix }
     };
     list.read("whole-2^60", &thirty([1, 3]).words(), 0, &[30, 0, 0, 1 << 60]);
-    list.refused("whole-over-2^60", &thirty([1, 4]).words(), 9);
-    list.refused("whole-2^64", &all(4, [32_768, 32_768]).words(), 9);
-    list.refused("whole-2^128", &all(8, [32_768, 32_768]).words(), 9);
-    list.refused("whole-largest", &all(32, [65_535, 65_535]).words(), 9);
+    list.refused("whole-over-2^60", &thirty([1, 4]).words(), 9, &[]);
+    list.refused("whole-2^64", &all(4, [32_768, 32_768]).words(), 9, &[]);
+    list.refused("whole-2^128", &all(8, [32_768, 32_768]).words(), 9, &[]);
+    list.refused("whole-largest", &all(32, [65_535, 65_535]).words(), 9, &[]);
+}
+
+/// What 5 to 8 name: the first clause or variable at fault, the last there can be, and the first of several.
+fn places(list: &mut List) {
+    let rule = |clauses: &[&[u32]]| RuleDraft::new(clauses, &[[0, 0]; 3]);
+    // A word too many between the clauses and the prefix.
+    let loose = |mut words: Vec<u32>| {
+        let count = words.len();
+        let start = words[count - 2];
+        words.insert(start as usize, 0);
+        words[count - 1] = start + 1;
+        words[count] = count as u32 + 1;
+        words
+    };
+    let four = &[0, 2, 4, 1];
+
+    // 5: more literals than variables, a clause past the prefix start, and the end, alone and together.
+    let words = rule(&[&[0], &[2, 4], &[], &[1], &[3]]).words();
+    list.read("five-clauses", &words, 0, &[3, 5, 10, 1]);
+    list.refused("clause-2-k-over-n", &rule(&[&[0], &[2, 4], four, &[1], &[3]]).words(), 5, &[2]);
+    list.refused("clause-4-k-over-n", &rule(&[&[0], &[2, 4], &[], &[1], four]).words(), 5, &[4]);
+    list.refused("clause-3-k-over-n-reaches-past", &with(&words, 6, 9), 5, &[3]);
+    list.refused("clause-4-reaches-past", &with(&words, 8, 2), 5, &[4]);
+    list.refused("clause-5-past-the-start", &with(&words, 16, 6), 5, &[5]);
+    list.refused("walk-ends-early-by-a-word", &loose(words.clone()), 5, &[5]);
+    list.refused("walk-ends-early-by-a-clause", &with(&words, 16, 4), 5, &[4]);
+    list.refused("clauses-1-3-k-over-n", &rule(&[&[0], four, &[], four, &[3]]).words(), 5, &[1]);
+    let over = rule(&[&[0], four, &[], &[1], &[3]]).words();
+    list.refused("clause-1-k-over-n-3-reaches-past", &with(&over, 8, 9), 5, &[1]);
+    list.refused("clause-1-k-over-n-and-end", &loose(over), 5, &[1]);
+
+    // 6 and 7.
+    list.refused("literal-of-clause-1", &rule(&[&[0], &[2, 6], &[], &[1], &[3]]).words(), 6, &[1]);
+    list.refused("literal-of-clause-4", &rule(&[&[0], &[2, 4], &[], &[1], &[6]]).words(), 6, &[4]);
+    list.refused("literals-of-clauses-1-3-4", &rule(&[&[0], &[9, 2], &[], &[6], &[7]]).words(), 6, &[1]);
+    list.refused("variable-twice-in-0-1-4", &rule(&[&[0, 1], &[2, 2], &[], &[1], &[3, 3]]).words(), 7, &[0]);
+    list.refused("variable-twice-in-3", &rule(&[&[0], &[2, 4], &[], &[1, 5, 0], &[3]]).words(), 7, &[3]);
+    list.refused("variable-twice-in-0-literal-of-3", &rule(&[&[0, 1], &[2, 4], &[], &[6], &[3]]).words(), 6, &[3]);
+
+    // The last of 1,024 clauses; all others are empty.
+    let last = |clause: &[u32]| {
+        let mut clauses = vec![Vec::new(); 1_023];
+        clauses.push(clause.to_vec());
+        RuleDraft { clauses, prefix: vec![[0, 0]; 3] }.words()
+    };
+    list.read("last-of-1024", &last(&[0, 3]), 0, &[3, 1_024, 1_026, 1]);
+    list.read("last-of-1024-k-over-n", &last(four), 5, &[1_023]);
+    list.read("last-of-1024-reaches-past", &with(&last(&[0]), 1_023, 2), 5, &[1_023]);
+    let missing = RuleDraft { clauses: vec![Vec::new(); 1_023], prefix: Vec::new() }.words();
+    list.read("last-of-1024-past-the-start", &with(&missing, 1_023, 1_024), 5, &[1_023]);
+    list.read("end-after-1024", &loose(last(&[0, 3])), 5, &[1_024]);
+    list.read("last-of-1024-literal", &last(&[0, 6]), 6, &[1_023]);
+    list.read("last-of-1024-variable-twice", &last(&[0, 1]), 7, &[1_023]);
+
+    // 8: variables, by their number and not by their word.
+    let prefix = |changes: &[(usize, [u32; 2])]| {
+        let mut prefix = vec![[1, 2]; 32];
+        changes.iter().for_each(|&(v, pair)| prefix[v] = pair);
+        RuleDraft { clauses: vec![vec![0, 2]], prefix }.words()
+    };
+    list.read("thirty-two-variables", &prefix(&[]), 0, &[32, 1, 3, 3u64.pow(32)]);
+    list.refused("weights-of-0", &prefix(&[(0, [0, 1])]), 8, &[0]);
+    list.refused("weights-of-31", &prefix(&[(31, [1, 65_536])]), 8, &[31]);
+    list.refused("weights-of-4-9-31", &prefix(&[(9, [0, 7]), (4, [7, 0]), (31, [65_536, 1])]), 8, &[4]);
 }
 
 /// 1,024 clauses over 32 existential variables in exactly 65,536 bytes. Clause {0} decides both
@@ -242,19 +308,19 @@ fn orders(list: &mut List) {
     assert_eq!(words, [2, 0, 2, 2, 1, 3, 1, 1, 1, 1, 2, 2, 6, 14]);
     let change =
         |changes: &[(usize, u32)]| changes.iter().fold(words.clone(), |words, &(at, word)| with(&words, at, word));
-    list.refused("order-2-3", &change(&[(13, 13), (11, 33)]), 2);
-    list.refused("order-3-4", &change(&[(11, 33)]), 3);
-    list.refused("order-4-5", &change(&[(12, 7), (0, 3)]), 4);
-    list.refused("order-5-6", &change(&[(2, 4), (3, 3)]), 5);
-    list.refused("order-6-7", &change(&[(2, 1), (5, 4)]), 6);
-    list.refused("order-7-8", &change(&[(5, 0), (6, 65_536)]), 7);
+    list.refused("order-2-3", &change(&[(13, 13), (11, 33)]), 2, &[]);
+    list.refused("order-3-4", &change(&[(11, 33)]), 3, &[]);
+    list.refused("order-4-5", &change(&[(12, 7), (0, 3)]), 4, &[]);
+    list.refused("order-5-6", &change(&[(2, 4), (3, 3)]), 5, &[1]);
+    list.refused("order-6-7", &change(&[(2, 1), (5, 4)]), 6, &[1]);
+    list.refused("order-7-8", &change(&[(5, 0), (6, 65_536)]), 7, &[1]);
     let rule = RuleDraft::new(&[], &[[65_535, 65_535], [65_535, 65_535], [65_535, 65_535], [65_535, 65_535], [1, 0]]);
-    list.refused("order-8-9", &rule.words(), 8);
+    list.refused("order-8-9", &rule.words(), 8, &[4]);
     // A literal too large in a clause with a variable twice.
     let rule = RuleDraft::new(&[&[0, 1, 6]], &[[0, 0]; 3]);
-    list.refused("order-6-7-one-clause", &rule.words(), 6);
+    list.refused("order-6-7-one-clause", &rule.words(), 6, &[0]);
     let rule = RuleDraft::new(&[&[0, 0, 5]], &[[0, 0]; 3]);
-    list.refused("order-7-beside", &rule.words(), 7);
+    list.refused("order-7-beside", &rule.words(), 7, &[0]);
 }
 
 /// The largest whole, 2^60, with numbers at its ends.
@@ -553,7 +619,7 @@ fn derivations(list: &mut List) {
     list.check("n-0-kind-2", &falsified, &[2, 0, 0, 0, 0, 0, 0, 1, 1, 10], 18, &[0]);
 }
 
-/// The clause reader: files that it gives clause by clause, and each of 1 to 9.
+/// The clause reader: files that it gives clause by clause.
 fn clauses(list: &mut List) {
     let rule = sample().0;
     list.clauses("clauses-sample", &rule, &[2, 0, 2, 1, 3, 2, 2, 4]);
@@ -575,22 +641,4 @@ fn clauses(list: &mut List) {
     let short = RuleDraft { clauses: (0..1_024).map(|at| vec![at % 64]).collect(), prefix: vec![[0, 0]; 32] };
     let numbers: Vec<u64> = (0..1_024).flat_map(|at| [1, at % 64]).collect();
     list.clauses("clauses-1024-short", &short, &numbers);
-
-    // The sample's words: prefix from word 8, trailer from word 14.
-    let words = rule.words();
-    let thirty_one = RuleDraft::new(&[&[0]], &[[1, 3]; 31]).words();
-    let refused = [
-        words[..3].to_vec(),
-        with(&words, 17, 17),
-        with(&words, 15, 33),
-        with(&words, 16, 7),
-        with(&words, 5, 3),
-        with(&words, 7, 6),
-        with(&words, 2, 1),
-        with(&words, 8, 65_536),
-        thirty_one,
-    ];
-    for (words, code) in refused.iter().zip(1..) {
-        list.add(format!("clauses-refused-{code}"), &to_bytes(words), Operation::Clauses, code, &[]);
-    }
 }

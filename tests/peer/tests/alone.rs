@@ -45,7 +45,7 @@ fn sample_answers() {
         assert_eq!(tables.cut(level), line.map(u128::from));
         assert_eq!(walk::cut(&rules, level).0, *line);
     }
-    assert_eq!(answer(&file, |solver| solver.cut(4)), Answer::refused(12));
+    assert_eq!(answer(&file, |solver| solver.cut(4)), Answer::refused((12, None)));
     assert_eq!(answer(&file, |solver| solver.check(&draft.bytes())), numbers(&[12, 50]));
     assert_eq!(answer(&file, |solver| solver.verdict(12, 12)), numbers(&[0, 12]));
     assert_eq!(answer(&file, |solver| solver.verdict(13, 50)), numbers(&[2, 0]));
@@ -190,14 +190,14 @@ fn skipped_totals_count() {
 /// Sums and products that would pass modulo 2^32 or 2^64 are refused.
 #[test]
 fn no_wrapping() {
-    let number = |words: &[u32]| rules::read(&to_bytes(words)).err();
+    let fault = |words: &[u32]| rules::read(&to_bytes(words)).err();
     // Prefix start 2^32 - 2 with n = 1.
-    assert_eq!(number(&[0, 1, u32::MAX - 1, 4]), Some(4));
+    assert_eq!(fault(&[0, 1, u32::MAX - 1, 4]), Some((4, None)));
     // A clause length that wraps to the prefix start: 1 + 1 + k.
-    assert_eq!(number(&[u32::MAX, 1, 0, 1, 5]), Some(5));
+    assert_eq!(fault(&[u32::MAX, 1, 0, 1, 5]), Some((5, Some(0))));
     // Four totals of 2^16: whole 2^64.
     let rule = RuleDraft::new(&[], &[[32_768, 32_768]; 4]);
-    assert_eq!(number(&rule.words()), Some(9));
+    assert_eq!(fault(&rule.words()), Some((9, None)));
     // 2n modulo 2^32.
-    assert_eq!(number(&[0, 1 << 31, 0, 4]), Some(3));
+    assert_eq!(fault(&[0, 1 << 31, 0, 4]), Some((3, None)));
 }

@@ -9,11 +9,11 @@ use common::{random, rounds, Pair, CHECK};
 use peer::answer::{Answer, Solver};
 use peer::generate::{self, DerivationDraft, LineDraft, RuleDraft};
 use peer::random::Random;
-use peer::rules::{self, Rules};
+use peer::rules::{self, Fault, Rules};
 use peer::{to_bytes, to_words};
 
 /// A rule file of at most `most` variables, with its reading.
-fn file(random: &mut Random, most: usize) -> (Vec<u8>, Result<Rules, u32>) {
+fn file(random: &mut Random, most: usize) -> (Vec<u8>, Result<Rules, Fault>) {
     let bytes = generate::small_rule(random, most).bytes();
     let rules = rules::read(&bytes);
     (bytes, rules)
@@ -54,10 +54,7 @@ fn accepted_and_near() {
     pair.report("accepted_and_near");
     pair.reached(CHECK, [0], 30_000);
     pair.reached(CHECK, 13..=21, 500);
-    for number in 15..=20 {
-        let count = pair.later_lines[number];
-        assert!(count >= 300, "{number} named a line after line 0 only {count} times");
-    }
+    pair.named_later(CHECK, 15..=20, 300);
 }
 
 /// Every word of document 01's derivation, and of others, changed to each of many words.
@@ -142,6 +139,7 @@ fn refused_rule_files() {
     }
     pair.report("refused_rule_files");
     pair.reached(CHECK, 1..=9, 100);
+    pair.named_later(CHECK, 5..=8, 100);
 }
 
 /// Derivations of up to 1,024 lines and 65,536 bytes, and some beyond.
@@ -199,7 +197,7 @@ fn long_derivations() {
     assert_eq!(got, Answer { code: 0, numbers: vec![1, 1] });
     draft.lines.push(draft.lines[0].clone());
     let got = pair.check(&mut random, &rule, &solver, &draft.bytes());
-    assert_eq!(got, Answer::refused(14));
+    assert_eq!(got, Answer::refused((14, None)));
 
     pair.report("long_derivations");
     pair.reached(CHECK, [0, 13, 14, 15, 16, 17, 18, 19, 20, 21], 1);

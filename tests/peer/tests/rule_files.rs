@@ -54,6 +54,7 @@ fn long_files() {
     }
     pair.report("long_files");
     pair.reached(READ, [0, 1, 2, 3, 4, 5, 6, 7, 8], 1);
+    pair.named_later(READ, 5..=8, 1);
     pair.reached(FIGURE, [0], 60);
 }
 
@@ -101,6 +102,7 @@ fn faulty_files() {
     pair.report("faulty_files");
     for operation in [READ, FIGURE, VERDICT, CUT] {
         pair.reached(operation, 0..=9, 300);
+        pair.named_later(operation, 5..=8, 300);
     }
 }
 

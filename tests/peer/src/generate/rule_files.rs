@@ -196,43 +196,51 @@ pub fn faulty_rule(random: &mut Random, faults: &[u32]) -> Vec<u8> {
             *pair = random.pick(&[[65_535, 65_535], [32_768, 32_768], [65_535, 1]]);
         }
     }
+    // Often in several variables or clauses: the first of them is named.
+    let times = random.within(1, 3);
     if has(8) && n > 0 {
-        let at = random.below(n);
-        let weight = random.within(1, 65_535) as u32;
-        let large = random.pick(&[65_536, 65_537, 131_072, 1 << 31, u32::MAX]);
-        draft.prefix[at] = random.pick(&[
-            [0, weight],
-            [weight, 0],
-            [large, weight],
-            [weight, large],
-            [large, large],
-            [0, large],
-            [large, 0],
-        ]);
+        for _ in 0..times {
+            let at = random.below(n);
+            let weight = random.within(1, 65_535) as u32;
+            let large = random.pick(&[65_536, 65_537, 131_072, 1 << 31, u32::MAX]);
+            draft.prefix[at] = random.pick(&[
+                [0, weight],
+                [weight, 0],
+                [large, weight],
+                [weight, large],
+                [large, large],
+                [0, large],
+                [large, 0],
+            ]);
+        }
     }
     if has(7) && m > 0 && n > 1 {
-        let clause = &mut draft.clauses[random.below(m)];
-        if clause.is_empty() {
-            clause.push(random.below(2 * n) as u32);
-        }
-        let twin = clause[random.below(clause.len())] ^ random.below(2) as u32;
-        if clause.len() < n {
-            clause.push(twin);
-        } else {
-            clause[0] = clause[1] ^ random.below(2) as u32;
-        }
-        if random.once_in(2) {
-            random.shuffle(clause);
+        for _ in 0..times {
+            let clause = &mut draft.clauses[random.below(m)];
+            if clause.is_empty() {
+                clause.push(random.below(2 * n) as u32);
+            }
+            let twin = clause[random.below(clause.len())] ^ random.below(2) as u32;
+            if clause.len() < n {
+                clause.push(twin);
+            } else {
+                clause[0] = clause[1] ^ random.below(2) as u32;
+            }
+            if random.once_in(2) {
+                random.shuffle(clause);
+            }
         }
     }
     if has(6) && m > 0 && n > 0 {
-        let clause = &mut draft.clauses[random.below(m)];
-        let near = bound + random.below(70) as u32;
-        let large = random.pick(&[bound, bound + 1, near, 1 << 31, u32::MAX]);
-        if clause.len() < n && random.once_in(2) {
-            clause.push(large);
-        } else if let Some(literal) = clause.last_mut() {
-            *literal = large;
+        for _ in 0..times {
+            let clause = &mut draft.clauses[random.below(m)];
+            let near = bound + random.below(70) as u32;
+            let large = random.pick(&[bound, bound + 1, near, 1 << 31, u32::MAX]);
+            if clause.len() < n && random.once_in(2) {
+                clause.push(large);
+            } else if let Some(literal) = clause.last_mut() {
+                *literal = large;
+            }
         }
     }
     let mut words = draft.words();
@@ -242,11 +250,11 @@ pub fn faulty_rule(random: &mut Random, faults: &[u32]) -> Vec<u8> {
             0 => words[count - 4] -= 1,
             1 => words[count - 4] += random.within(1, 1_024 - m) as u32,
             _ => {
-                let mut at = 0;
-                for clause in &draft.clauses[..random.below(m)] {
-                    at += 1 + clause.len();
+                for _ in 0..times {
+                    let before = &draft.clauses[..random.below(m)];
+                    let at: usize = before.iter().map(|clause| 1 + clause.len()).sum();
+                    words[at] = harmful(random, words[at]);
                 }
-                words[at] = harmful(random, words[at]);
             }
         }
     }

@@ -21,8 +21,8 @@ pub struct Pair {
     pub counts: [[u64; 22]; 5],
     /// How often a verdict was within, above and below.
     pub verdicts: [u64; 3],
-    /// How often 15 to 20 named a line after line 0.
-    pub later_lines: [u64; 22],
+    /// How often each operation's refusals named a clause, variable or line after the first.
+    pub later: [[u64; 22]; 5],
 }
 
 /// The number of rounds, times the variable PEER_ROUNDS if it is set.
@@ -46,7 +46,7 @@ fn place(random: &mut Random) -> Place {
 
 impl Pair {
     pub fn new() -> Pair {
-        Pair { library: Library::new(), counts: [[0; 22]; 5], verdicts: [0; 3], later_lines: [0; 22] }
+        Pair { library: Library::new(), counts: [[0; 22]; 5], verdicts: [0; 3], later: [[0; 22]; 5] }
     }
 
     /// Fails unless the call returned the peer's answer.
@@ -58,8 +58,8 @@ impl Pair {
         if operation == VERDICT && code == 0 {
             self.verdicts[expected.numbers[0] as usize] += 1;
         }
-        if (15..=20).contains(&code) && expected.numbers[0] > 0 {
-            self.later_lines[code] += 1;
+        if code > 0 && expected.numbers.first().is_some_and(|place| *place > 0) {
+            self.later[operation][code] += 1;
         }
     }
 
@@ -134,6 +134,15 @@ impl Pair {
         for number in numbers {
             let count = self.counts[operation][number];
             assert!(count >= least, "{} returned {number} only {count} times", NAMES[operation]);
+        }
+    }
+
+    /// Fails unless the operation's refusals by each of these numbers named a place after the first at least `least`
+    /// times.
+    pub fn named_later(&self, operation: usize, numbers: impl IntoIterator<Item = usize>, least: u64) {
+        for number in numbers {
+            let count = self.later[operation][number];
+            assert!(count >= least, "{} named a place after 0 with {number} only {count} times", NAMES[operation]);
         }
     }
 
