@@ -20,11 +20,12 @@ fn main() {
 #[cfg(not(feature = "no-ffi"))]
 mod bench {
     use peer::ffi::plain;
-    use peer::generate::{self, DerivationDraft, RuleDraft, Writer};
+    use peer::generate::{self, Freedom, RuleDraft};
     use peer::guard::on_stack;
     use peer::random::Random;
     use peer::rules::{self, Rules};
     use peer::tables::Tables;
+    use peer::writer::{self, DerivationDraft, Limits, Writer};
     use peer::{derivation, walk};
     use std::hint::black_box;
     use std::time::Instant;
@@ -241,7 +242,7 @@ mod bench {
     // Derivations
     // -----------------------------------------------------------------------------------------
 
-    /// A derivation of 950 to 1,024 lines that the plain walk writes.
+    /// A derivation of 950 to 1,024 lines that the writer writes.
     fn walked() -> (RuleDraft, DerivationDraft) {
         let mut random = Random::new(5_000);
         loop {
@@ -254,10 +255,9 @@ mod bench {
                 .map(|v| if v % 2 == 0 { [0, 0] } else { [2, 1] })
                 .collect();
             let rule = RuleDraft { clauses, prefix };
-            let Some(draft) = generate::derivation(&rules_of(&rule.bytes()), 1_024) else {
-                continue;
-            };
-            if draft.lines.len() >= 950 && draft.bytes().len() <= 65_536 {
+            let limits = Limits::for_buffer(65_536);
+            let draft = writer::derivation(&rules_of(&rule.bytes()), limits);
+            if let Some(draft) = draft.filter(|draft| draft.lines.len() >= 950) {
                 return (rule, draft);
             }
         }
@@ -277,10 +277,13 @@ mod bench {
             prefix: vec![[1, 1]; n],
         };
         let rules = rules_of(&rule.bytes());
-        let mut writer = Writer::new(&rules);
-        writer.most = 1_000;
-        writer.wander(&mut random, 1_000_000);
-        writer.most = 1_024;
+        let limits = Limits {
+            bytes: 65_536,
+            lines: 1_000,
+        };
+        let mut writer = Writer::new(&rules, limits);
+        Freedom::default().wander(&mut random, &mut writer, 1_000_000);
+        writer.limits.lines = 1_024;
         let closing = writer
             .write_resolvent(2 * 999, 2 * 998)
             .expect("clauses {1} and {0}");
@@ -317,9 +320,74 @@ mod bench {
         }
     }
 
+    /// Document 01's sample, rule files whose derivations have about 1,000 lines, and one whose derivation has over
+    /// 2^32.
+    fn written() -> [(&'static str, RuleDraft); 5] {
+        let literals = |signs: u32| (0..10).map(|v| 2 * v + (signs >> v & 1)).collect();
+        let ten = RuleDraft {
+            clauses: (0..1_024).map(literals).collect(),
+            prefix: vec![[1, 1]; 10],
+        };
+        let last = RuleDraft {
+            clauses: vec![vec![62]],
+            prefix: vec![[0, 0]; 32],
+        };
+        [
+            ("the sample", generate::sample().0),
+            ("3-clauses", walked().0),
+            (
+                "two variables fixed",
+                RuleDraft::new(&[&[16], &[18]], &[[1, 1]; 10]),
+            ),
+            ("all clauses of ten literals", ten),
+            ("refused by 22", last),
+        ]
+    }
+
+    /// The writer; and the check of what it writes.
+    fn writing() {
+        println!("| rule file | n | m | lines | bytes | proved, ms | ns a line | peer, ms | proved / peer | check, ms | write / check | stack, bytes |");
+        println!("|---|--:|--:|--:|--:|--:|--:|--:|--:|--:|--:|--:|");
+        for (name, rule) in written() {
+            let file = rule.bytes();
+            let mut buffer = vec![0; 65_536];
+            let mut got = (0, [0; 4]);
+            let (proved, stack) = seconds_on_stack(&mut || {
+                got = plain::derive(black_box(&file), black_box(&mut buffer))
+            });
+            let mut expected = None;
+            let peer = seconds(|| expected = writer::derive(&rules_of(black_box(&file)), 65_536));
+            let begin = format!(
+                "| {name} | {} | {} |",
+                rule.prefix.len(),
+                rule.clauses.len()
+            );
+            let times = [ms(peer), ratio(proved, peer)].join(" | ");
+            let Some(expected) = expected else {
+                assert_eq!(got.0, 22);
+                println!("{begin} | | {} | | {times} | | | {stack} |", ms(proved));
+                continue;
+            };
+            let steps = &buffer[..got.1[0] as usize];
+            assert!(got.0 == 0 && *steps == expected);
+            let check = seconds_on_stack(&mut || got = plain::check(&file, black_box(steps))).0;
+            let lines = peer::to_words(&expected)[expected.len() / 4 - 3];
+            println!(
+                "{begin} {lines} | {} | {} | {:.0} | {times} | {} | {} | {stack} |",
+                steps.len(),
+                ms(proved),
+                proved * 1e9 / f64::from(lines),
+                ms(check),
+                ratio(proved, check),
+            );
+        }
+    }
+
     pub fn main() {
         trees();
         println!();
         derivations();
+        println!();
+        writing();
     }
 }

@@ -1,7 +1,7 @@
 /* SSAT: stochastic Boolean satisfiability, on rule files and derivation files. What the files hold, what their numbers
  * mean and where each refusal's border lies is in docs/FORMATS.md.
  *
- * Each of the five functions returns 0 for an answer, else the number of the refusal. The answer depends on the
+ * Each of the six functions returns 0 for an answer, else the number of the refusal. The answer depends on the
  * arguments alone; several threads may call at once. The whole is the product of the totals of all variables: the value
  * of the formula, out of the whole, is the maximum probability that every clause holds.
  *
@@ -9,6 +9,10 @@
  *   rule, derivation   lent for reading only: no byte of them changes. `rule` holds `len` bytes and `derivation` holds
  *                      `dlen` bytes, of any content and any alignment; no byte past them is read. The pointers are not
  *                      null, even where the length is 0.
+ *   buffer             `capacity` bytes, lent for writing, of any content and any alignment; no byte past them is
+ *                      touched. Not null, even where the capacity is 0, and no part of the other buffers.
+ *     answer           the derivation stands at its start, and the bytes past the derivation's end keep their content.
+ *     refusal          `buffer` is unchanged.
  *   out                four numbers, lent for writing; not null, aligned, and no part of the other buffers.
  *     answer           the numbers named below stand in `out` from index 0; the rest is set to 0.
  *     refusal          `out` is unchanged, except that a refusal which names a place puts it into out[0]: 5 to 7 the
@@ -40,6 +44,8 @@
  *   19  a kind 2 line whose literals are not those of its parents' resolvent
  *   20  a line with a wrong value
  *   21  the closing reference names nothing, or a clause or line with literals
+ * Refusal of the derivation that is to be written, after 1 to 9:
+ *   22  it exceeds the buffer, 65,536 bytes or 1,024 lines
  * The first that applies is returned, in this order; 17 to 20 line by line.
  */
 
@@ -77,6 +83,12 @@ uint32_t ssat_cut(const uint8_t *rule, size_t len, uint64_t level, uint64_t out[
  * out: closing value, whole, 0, 0.
  * Refusals: 1 to 9 for the rule file, 13 to 21. */
 uint32_t ssat_check(const uint8_t *rule, size_t len, const uint8_t *derivation, size_t dlen, uint64_t out[4]);
+
+/* Writes a derivation over a rule file into `buffer`. ssat_check accepts it, and its closing value is the value of the
+ * formula.
+ * out: byte length, 0, 0, 0.
+ * Refusals: 1 to 9, 22. */
+uint32_t ssat_derive(const uint8_t *rule, size_t len, uint8_t *buffer, size_t capacity, uint64_t out[4]);
 
 #ifdef __cplusplus
 }

@@ -1,19 +1,20 @@
--- Membership in a set made of bits: of the empty set, of a set with one number more, of the set of a list; then a list
--- one number at a time, as a loop takes it. The statuses of clauses by their masks are in the crate node. Assumes
--- nothing.
+-- Membership in a set made of bits: of the empty set, of a set with one number more, of the set of a list, with how
+-- large that is; then a list one number at a time, as a loop takes it. The statuses of clauses by their masks are in
+-- the crate node. Assumes nothing.
 use mathlib.Core.Path.{_≡_, refl, sym, ap, _∙_}
 use mathlib.Core.Bool.{Bool, true, false, not, _||_, or-false, or-assoc}
-use mathlib.Core.List.{List, [], _∷_}
+use mathlib.Core.List.{List, [], _∷_, _++_, List·Memᴰ·head, List·Memᴰ·tail}
 use Prim.Native.Nat.{ℕ, _*_, _%_, _^_, _<_}
 use native.Mathlib.Nat.{one-mul}
 use native.Mathlib.Decide.{ℕ-discrete, decLt}
 use native.Mathlib.Omega.{arith}
 use lib.Pow.{pow-pos, shl-exact, pow-lt}
-use lib.Bits.{bitAnd, bitOr, and-self, and-shifted, and-comm}
+use lib.Bits.{bitAnd, bitOr, and-self, and-shifted, and-comm, or-lt}
 use lib.Dec.{eqb}
 use borrow.Author.Tests.{eq-eqb, ne-eqb}
 use Rattle.formula.specs.Formula.{some-of, member}
-use Rattle.bit_set.specs.BitSet.{has, including, mask-onto}
+use Rattle.formula.specs.Nodes.{Every}
+use Rattle.bit_set.specs.BitSet.{has, including, mask-onto, mask}
 use Rattle.bit_set.proofs.BitLaws.{and-or, le-or-l}
 
 pub has-none : (x : ℕ) → has 0 x ≡ false
@@ -40,7 +41,7 @@ single x y = go (ℕ-discrete x y) (decLt x y)
     go (no n) (no h) = rw (ne-eqb x y n, below y x (omega arith))
 
 -- a union is empty where both parts are
-union-empty : (a b : ℕ) → not (eqb (bitOr a b) 0) ≡ not (eqb a 0) || not (eqb b 0)
+pub union-empty : (a b : ℕ) → not (eqb (bitOr a b) 0) ≡ not (eqb a 0) || not (eqb b 0)
 union-empty a b = go (ℕ-discrete a 0) (ℕ-discrete b 0)
   where
     go : Dec (a ≡ 0) → Dec (b ≡ 0) → not (eqb (bitOr a b) 0) ≡ not (eqb a 0) || not (eqb b 0)
@@ -70,6 +71,22 @@ has-onto s y (x ∷ xs) =
 
 pub has-mask : (y : ℕ) (xs : List ℕ) → has (mask-onto 0 xs) y ≡ member y xs
 has-mask y xs = has-onto 0 y xs ∙ ap (_|| member y xs) (has-none y)
+
+-- a list of numbers under n has a set of n digits
+onto-small : (n s : ℕ) (xs : List ℕ) → s < 2 ^ n → Every (λ x. x < n) xs → mask-onto s xs < 2 ^ n
+unfolding mask-onto
+onto-small n s [] h small = h
+onto-small n s (x ∷ xs) h small =
+    onto-small n (including s x) xs (or-lt n s (2 ^ x) h (pow-lt (small x (List·Memᴰ·head refl)))) (λ y m. small y (List·Memᴰ·tail m))
+
+pub mask-small : (n : ℕ) (xs : List ℕ) → Every (λ x. x < n) xs → mask xs < 2 ^ n
+mask-small n xs = onto-small n 0 xs (pow-pos n)
+
+-- the numbers of two lists, one after the other
+pub onto-append : (s : ℕ) (xs ys : List ℕ) → mask-onto s (xs ++ ys) ≡ mask-onto (mask-onto s xs) ys
+unfolding mask-onto
+onto-append s [] ys = refl
+onto-append s (x ∷ xs) ys = onto-append (including s x) xs ys
 
 -- a list one number at a time, as a loop takes it: x is at hand, and ys is what is left
 module _ {x : ℕ} {xs ys : List ℕ} (e : ys ≡ x ∷ xs) where

@@ -1,15 +1,18 @@
--- Texts put into a buffer: the copy of one text, texts one after another, a text at the buffer's start, and one number
--- more. The digits of a number are in DecimalLaws, the bytes of 32-bit words in BytesLaws. Assumes nothing.
+-- Texts put into a buffer: the copy of one text, texts one after another, words one after another, a text at the
+-- buffer's start, and one number more. The digits of a number are in DecimalLaws, the bytes of 32-bit words in
+-- BytesLaws. Assumes nothing.
 use mathlib.Core.Path.{_≡_, sym, ap, ap₂, _∙_}
 use mathlib.Core.List.{List, [], _∷_, _++_, append-nil, append-assoc}
-use Prim.Native.Nat.{ℕ, zero, suc, _+_, _≤_, _<_}
+use Prim.Native.Nat.{ℕ, zero, suc, _+_, _≤_, _<_, zero-le}
 use native.Mathlib.Nat.{add-zero, le-of-suc-le-suc}
 use native.Mathlib.Omega.{arith}
 use native.Mathlib.Numerals.{add-one}
-use lib.ListN.{length, take, drop, getD, set, length-append, length-take, take-append-drop}
+use lib.ListN.{length, take, drop, getD, set, length-append, length-take, length-drop, take-append-drop}
 use lib.Seq.{paste, paste-suc, take-all, take-at, drop-at, drop-drop, length-take-le}
 use Rattle.io.specs.Counts.{Counts}
+use Rattle.buffer.specs.Bytes.{word-bytes, bytes-of}
 use Rattle.buffer.specs.Text.{Put, decimal, after-blanks}
+use Rattle.buffer.proofs.BytesLaws.{bytes-of-append}
 
 -- a copy goes on by one byte
 pub paste-more :
@@ -30,32 +33,53 @@ pub put-nothing : (a : List ℕ) (i : ℕ) → Put a i [] a i
 put-nothing a i =
     record { ends = sym (add-zero i); contents = sym (ap (λ l. l ++ drop i a) (append-nil (take i a)) ∙ take-append-drop i a) }
 
--- a text after a text
-pub put-append :
-    {a b c : List ℕ} {i j k : ℕ} {s t : List ℕ} → i ≤ length a → Put a i s b j → Put b j t c k → Put a i (s ++ t) c k
-put-append {a} {b} {c} {i} {j} {k} {s} {t} h p q =
-    record {
-      ends = rw length-append (omega (arith, p .ends, q .ends));
-      contents = q .contents ∙ ap₂ (λ x y. x ++ t ++ y) start rest ∙ ap (λ x. x ++ drop k a) (append-assoc (take i a) s t);
-    }
-  where
-    front : length (take i a ++ s) ≡ j
-    front = simp (length-append, length-take-le i a h) (sym (p .ends))
+module _ {a b : List ℕ} {i j : ℕ} {s : List ℕ} (h : i ≤ length a) (p : Put a i s b j) where
+  -- the buffer up to a text's end, and from there on
+  length-front : length (take i a ++ s) ≡ j
+  length-front = simp (length-append, length-take-le i a h) (sym (p .ends))
 
-    start : take j b ≡ take i a ++ s
-    start = rw (p .contents, take-at (take i a ++ s) (drop j a) j front)
+  pub put-front : take j b ≡ take i a ++ s
+  put-front = rw (p .contents, take-at (take i a ++ s) (drop j a) j length-front)
 
-    rest : drop k b ≡ drop k a
-    rest = rw (q .ends, ← drop-drop (length t) j b, p .contents, drop-at (take i a ++ s) (drop j a) j front, drop-drop)
+  put-past : drop j b ≡ drop j a
+  put-past = rw (p .contents, drop-at (take i a ++ s) (drop j a) j length-front)
+
+  -- a text after a text
+  pub put-append : {c : List ℕ} {k : ℕ} {t : List ℕ} → Put b j t c k → Put a i (s ++ t) c k
+  put-append {c} {k} {t} q =
+      record {
+        ends = rw length-append (omega (arith, p .ends, q .ends));
+        contents = q .contents ∙ ap₂ (λ x y. x ++ t ++ y) put-front rest ∙ ap (λ x. x ++ drop k a) (append-assoc (take i a) s t);
+      }
+    where
+      rest : drop k b ≡ drop k a
+      rest = rw (q .ends, ← drop-drop (length t) j b, put-past, drop-drop)
+
+-- the buffer stays as long as it was
+pub put-length : {a b : List ℕ} {i j : ℕ} {s : List ℕ} → j ≤ length a → Put a i s b j → length b ≡ length a
+put-length h p =
+    ap length (p .contents) ∙ simp (length-append, length-take, length-drop) (omega (arith, p .ends))
+
+-- a word, words after words, and a word after words
+pub put-first-word : {a b : List ℕ} {i j : ℕ} (w : ℕ) → Put a i (word-bytes w) b j → Put a i (bytes-of (w ∷ [])) b j
+unfolding bytes-of
+put-first-word w p = rw append-nil p
+
+module _ {a b c : List ℕ} {i j k : ℕ} (vs : List ℕ) (h : i ≤ length a) (p : Put a i (bytes-of vs) b j) where
+  pub put-words-after : (ws : List ℕ) → Put b j (bytes-of ws) c k → Put a i (bytes-of (vs ++ ws)) c k
+  put-words-after ws q = rw (bytes-of-append vs ws) (put-append h p q)
+
+  pub put-word-after : (w : ℕ) → Put b j (word-bytes w) c k → Put a i (bytes-of (vs ++ (w ∷ []))) c k
+  put-word-after w q = put-words-after (w ∷ []) (put-first-word w q)
 
 -- a text at the buffer's start
 pub put-at-start :
     {a s b : List ℕ} {r : ℕ} → Put a 0 s b r → Counts r b × (r ≡ length s) × (take r b ≡ s) × (drop r b ≡ drop r a)
 put-at-start {a} {s} {b} {r} p =
     let e : r ≡ length s = omega (arith, p .ends) in
-    let front : take r b ≡ s = rw (p .contents) (take-at s (drop r a) r (sym e)) in
+    let front : take r b ≡ s = put-front zero-le p in
     let n : r ≡ length (take r b) = e ∙ ap length (sym front) in
-    ((omega (arith, length-take r b), n), e, front, rw (p .contents) (drop-at s (drop r a) r (sym e)))
+    ((omega (arith, length-take r b), n), e, front, put-past zero-le p)
 
 -- one number more
 pub blanks-more :

@@ -1,5 +1,6 @@
--- A longer assignment refines every status, and one that sets all variables decides it. Assumes nothing.
-use Prim.Native.Nat.{ℕ, _≤_, _<_, _*_, _%_}
+-- A longer assignment refines every status, a formula is satisfied exactly where each clause is, and an assignment that
+-- sets all variables decides. Assumes nothing.
+use Prim.Native.Nat.{ℕ, zero, suc, _≤_, _<_, _*_, _%_}
 use native.Mathlib.Omega.{arith}
 use mathlib.Core.Path.{_≡_, refl}
 use mathlib.Core.Bool.{Bool, true, false, cond}
@@ -11,7 +12,7 @@ use Rattle.formula.specs.declared.Status.{Status}
 use Rattle.formula.specs.declared.Status.the-variants.{Falsified, Undetermined, Satisfied}
 use Rattle.formula.specs.Formula.{variable, literal-status, clause-status, formula-status, some-of, out-of-range}
 use Rattle.formula.proofs.SomeLaws.{or-false}
-use Rattle.formula.proofs.StatusLaws.{Refines, Decided, stays, becomes, either-refines, both-refines, either-decided, both-decided}
+use Rattle.formula.proofs.StatusLaws.{Refines, Decided, stays, becomes, either-refines, both-refines, either-decided, both-decided, both-is-satisfied}
 
 -- the status of a literal whose variable has the value v, given the literal's sign
 abbrev pub set-status : ℕ → ℕ → Status
@@ -46,6 +47,19 @@ pub formula-refines : (p r : List ℕ) (φ : List (List ℕ)) → Refines (formu
 unfolding formula-status
 formula-refines p r [] = stays
 formula-refines p r (c ∷ cs) = both-refines (clause-refines p r c) (formula-refines p r cs)
+
+-- a formula is satisfied exactly where each clause is
+pub each-satisfied : (p : List ℕ) (φ : List (List ℕ)) → formula-status p φ ≡ Satisfied → (k : ℕ) → k < length φ → clause-status p (getD φ k []) ≡ Satisfied
+unfolding formula-status
+each-satisfied p [] e k h = absurd (omega arith)
+each-satisfied p (c ∷ φ) e zero h = both-is-satisfied (clause-status p c) (formula-status p φ) .0 e .0
+each-satisfied p (c ∷ φ) e (suc k) h = each-satisfied p φ (both-is-satisfied (clause-status p c) (formula-status p φ) .0 e .1) k (omega arith)
+
+pub satisfied-by-each : (p : List ℕ) (φ : List (List ℕ)) → ((k : ℕ) → k < length φ → clause-status p (getD φ k []) ≡ Satisfied) → formula-status p φ ≡ Satisfied
+unfolding formula-status
+satisfied-by-each p [] each = refl
+satisfied-by-each p (c ∷ φ) each =
+    both-is-satisfied (clause-status p c) (formula-status p φ) .1 (each 0 (omega arith), satisfied-by-each p φ (λ k h. each (suc k) (omega arith)))
 
 -- what the laws of the tree ask of a node's status
 abbrev pub OnlyRefines : (List ℕ → Status) → Type 0

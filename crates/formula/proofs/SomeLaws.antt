@@ -1,11 +1,13 @@
 -- Tests over a list. First as a loop takes them, one element at a time, where ys is what is left: some-of, all-of,
 -- repeats. Then a test that no element passes, and tests of an appended list. Not here: a test as a statement on the
 -- elements (resolution, Membership). Assumes nothing.
+use Prim.Native.Nat.{ℕ, suc, _<_}
+use native.Mathlib.Omega.{arith}
 use mathlib.Core.Path.{_≡_, refl, ap, sym, _∙_}
 use mathlib.Core.Bool.{Bool, true, false, true≢false, _&&_, _||_, and-assoc, or-assoc}
 use mathlib.Core.List.{List, [], _∷_, _++_}
+use lib.ListN.{length, getD}
 use Rattle.formula.specs.Formula.{some-of, all-of, repeats}
-use Prim.Native.Nat.{ℕ}
 
 module _ {A : Type 0} (f : A → Bool) {x : A} {xs ys : List A} where
   -- the element at hand passes
@@ -58,6 +60,12 @@ module _ {A : Type 0} (f : A → Bool) (x : A) (xs : List A) (e : some-of f (x �
   pub none-rest : some-of f xs ≡ false
   unfolding some-of
   none-rest = or-false (f x) (some-of f xs) e .1
+
+-- where the element at each place fails, none passes
+pub none-by-places : {A : Type 0} (f : A → Bool) (d : A) (xs : List A) → ((k : ℕ) → k < length xs → f (getD xs k d) ≡ false) → some-of f xs ≡ false
+unfolding some-of
+none-by-places f d [] h = refl
+none-by-places f d (x ∷ xs) h = rw (h 0 (omega arith)) (none-by-places f d xs (λ k l. h (suc k) (omega arith)))
 
 -- where neither test passes anywhere, the second does not
 pub none-second : {A : Type 0} (f g : A → Bool) (xs : List A) → some-of (λ x. f x || g x) xs ≡ false → some-of g xs ≡ false

@@ -19,7 +19,7 @@ ghost use Rattle.node.specs.Node.{Opened};
 ghost use Rattle.report.specs.Report.{refusal-line, cut-line, cut-lines, head-text, accepted-text, report-text};
 
 // A refusal's line, with its place where there is one: at most 50 bytes.
-fn put_refusal(out: &mut [u8], at: usize, refusal: Refusal) -> usize
+pub fn put_refusal(out: &mut [u8], at: usize, refusal: Refusal) -> usize
     requires { ⌜ at + 50 ≤ length (now out) ⌝ }
     ensures { λ r. ⌜ Put (now (out .entry)) at (refusal-line refusal) (now (out .exit)) r ⌝ }
 {

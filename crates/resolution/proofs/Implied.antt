@@ -2,7 +2,7 @@
 -- test gives 004's by opposed-satisfied. For the converse, an assignment falsifies the line c and, where it can, a
 -- clause d of the formula: a literal of d that is true under it has its opposite in c. Assumes that c is in range, and
 -- that neither c nor a clause of the formula is a tautology.
-use Prim.Native.Nat.{ℕ, zero, suc, _*_, _%_, _<_}
+use Prim.Native.Nat.{ℕ, zero, suc, _%_, _<_}
 use native.Mathlib.Decide.{ℕ-discrete}
 use native.Mathlib.Omega.{arith}
 use mathlib.Core.Path.{_≡_, refl, sym, ap, _∙_}
@@ -10,15 +10,14 @@ use mathlib.Core.Logic.{_↔_, _≢_, ⊎-elim}
 use mathlib.Core.Bool.{Bool, true, false, cond}
 use mathlib.Core.List.{List, [], _∷_, _++_, append-nil, List·Memᴰ·head, List·Memᴰ·tail, List·Memᴰ·not-nil, Memᴰ·cast, Memᴰ·append-right, List·Memᴰ·append-cases}
 use lib.ListN.{length, getD}
-use lib.Dec.{leb}
-use borrow.Author.Tests.{eqb-true, eq-eqb, leb-false}
+use borrow.Author.Tests.{eqb-true, eq-eqb}
 use Rattle.formula.specs.declared.Status.the-variants.{Falsified}
 use Rattle.formula.specs.Formula.{variable, opposite, is-of, clause-status, out-of-range}
 use Rattle.formula.specs.Nodes.{TrueLiteral, FalseLiteral, Every}
 use Rattle.formula.proofs.NodesLaws.{clause-is-falsified, satisfied-iff-met}
 use Rattle.resolution.specs.Resolution.{_∈_, NonTautological, is-blocking}
 use Rattle.resolution.specs.Claims.{Implied}
-use Rattle.resolution.proofs.Membership.{all-of-iff, some-of-iff, none-of, member-iff}
+use Rattle.resolution.proofs.Membership.{all-of-iff, some-of-iff, in-range-iff, member-iff}
 use Rattle.resolution.proofs.Levels.{opposite-is}
 use Rattle.resolution.proofs.Soundness.{opposed-satisfied}
 
@@ -85,12 +84,11 @@ module _ (n : ℕ) (φ : List (List ℕ)) (c : List ℕ) (in-range : out-of-rang
   witness d = assign n (falsifying (c ++ d))
 
   line-falsified : (d : List ℕ) → clause-status (witness d) c ≡ Falsified
-  unfolding out-of-range
   line-falsified d = clause-is-falsified (witness d) c .1 (λ l m. go l m (first-of d m))
     where
       go : (l : ℕ) → l ∈ c → First c d l → FalseLiteral (witness d) l
       go l m (k, of, same, is) =
-          let h : variable l < n = omega (arith, leb-false (2 * n) l (none-of (leb (2 * n)) in-range m)) in
+          let h : variable l < n = omega (arith, in-range-iff n c .0 in-range l m) in
           (rw length-assign h, assign-at n (falsifying (c ++ d)) (variable l) h ∙ is ∙ same-sign non-taut m of same)
 
   -- a literal l of d that is true under the witness is the opposite of the literal that is falsified for its variable

@@ -10,9 +10,10 @@ use lib.Seq.{drop-append-le, length-take-le}
 use lib.Arith.{lt-of-le-ne}
 use lib.Dec.{eqb}
 use borrow.Author.Tests.{eqb-true, eqb-false}
-use Rattle.formula.specs.Formula.{variable, opposite}
+use Rattle.formula.specs.Formula.{variable, opposite, out-of-range}
 use Rattle.formula.specs.Quantifier.{Quantifier}
 use Rattle.resolution.specs.Resolution.{level, _∈_, NonTautological, Resolves}
+use Rattle.resolution.proofs.Membership.{in-range-iff}
 
 -- the opposite of k has its variable and the other sign
 pub opposite-is : (k : ℕ) → (variable (opposite k) ≡ variable k) × (opposite k % 2 + k % 2 ≡ 1)
@@ -23,7 +24,10 @@ opposite-is k = go (eqb (k % 2) 0) refl
     go true h = omega (arith, eqb-true (k % 2) 0 h)
     go false h = omega (arith, eqb-false (k % 2) 0 h)
 
-level-above : {l : ℕ} {c : List ℕ} → l ∈ c → variable l < level c
+pub opposite-twice : (k : ℕ) → opposite (opposite k) ≡ k
+opposite-twice k = omega (arith, opposite-is k, opposite-is (opposite k))
+
+pub level-above : {l : ℕ} {c : List ℕ} → l ∈ c → variable l < level c
 unfolding level
 level-above {l} (List·Memᴰ·head {x = k} {xs = ks} e) = omega arith
 level-above {l} (List·Memᴰ·tail {x = k} {xs = ks} m) = omega (arith, level-above m)
@@ -32,6 +36,9 @@ pub level-least : (n : ℕ) (c : List ℕ) → ((l : ℕ) → l ∈ c → variab
 unfolding level
 level-least n [] h = zero-le
 level-least n (k ∷ ks) h = omega (arith, h k (List·Memᴰ·head refl), level-least n ks (λ l m. h l (List·Memᴰ·tail m)))
+
+pub level-within : (n : ℕ) (c : List ℕ) → out-of-range n c ≡ false → level c ≤ n
+level-within n c e = level-least n c (λ l m. omega (arith, in-range-iff n c .0 e l m))
 
 -- what the two parents of a resolvent c on v have in common: s holds a literal k of v, no variable after v, and its
 -- other literals are in c

@@ -1,5 +1,5 @@
 -- The tests on lists, as statements on membership. Assumes nothing.
-use Prim.Native.Nat.{ℕ, zero, suc, _<_}
+use Prim.Native.Nat.{ℕ, zero, suc, _*_, _<_}
 use native.Mathlib.Nat.{not-suc-le-zero, le-of-suc-le-suc}
 use mathlib.Core.Path.{_≡_, refl, sym, _∙_}
 use mathlib.Core.Logic.{_⊎_, inl, inr, ⊎-elim, ⊎-map, _↔_, _≢_}
@@ -7,9 +7,9 @@ use mathlib.Core.Bool.{Bool, true, false, cond, _&&_, _||_, or-true, false≢tru
 use mathlib.Core.List.{List, [], _∷_, _++_, List·Memᴰ·head, List·Memᴰ·tail, List·Memᴰ·not-nil, List·Memᴰ·cases-cons}
 use mathlib.Core.List.{Memᴰ·cast, Memᴰ·append-left, Memᴰ·append-right, List·Memᴰ·append-cases}
 use lib.ListN.{length, getD}
-use lib.Dec.{eqb}
-use borrow.Author.Tests.{eqb-true, eqb-false, eq-eqb}
-use Rattle.formula.specs.Formula.{some-of, member, all-of}
+use lib.Dec.{eqb, leb}
+use borrow.Author.Tests.{eqb-true, eqb-false, eq-eqb, ne-eqb, leb-false, lt-leb}
+use Rattle.formula.specs.Formula.{some-of, member, all-of, out-of-range}
 use Rattle.formula.proofs.SomeLaws.{none-first, none-rest}
 use Rattle.resolution.specs.Resolution.{_∈_, without}
 
@@ -56,6 +56,19 @@ module _ {A : Type 0} (f : A → Bool) where
   none-of e (List·Memᴰ·head {x = y} {xs = ys} p) = rw p (none-first f y ys e)
   none-of e (List·Memᴰ·tail {x = y} {xs = ys} m) = none-of (none-rest f y ys e) m
 
+  pub of-none : (xs : List A) → ((x : A) → x ∈ xs → f x ≡ false) → some-of f xs ≡ false
+  unfolding some-of
+  of-none [] h = refl
+  of-none (y ∷ ys) h = rw (h y (List·Memᴰ·head refl)) (of-none ys (λ x m. h x (List·Memᴰ·tail m)))
+
+-- a clause over n variables has literals under 2n
+pub in-range-iff : (n : ℕ) (c : List ℕ) → (out-of-range n c ≡ false) ↔ ((l : ℕ) → l ∈ c → l < 2 * n)
+unfolding out-of-range
+in-range-iff n c = (
+  λ e l m. leb-false (2 * n) l (none-of (leb (2 * n)) e m),
+  λ h. of-none (leb (2 * n)) c (λ l m. lt-leb (2 * n) l (h l m)),
+)
+
 pub getD-in : {A : Type 0} (xs : List A) (i : ℕ) (d : A) → i < length xs → getD xs i d ∈ xs
 getD-in [] i d h = absurd (not-suc-le-zero h)
 getD-in (x ∷ xs) zero d h = List·Memᴰ·head refl
@@ -66,6 +79,9 @@ member-iff l c = (
   λ e. let (k, m, h) = some-of-iff (eqb l) c .0 e in Memᴰ·cast (eqb-true l k h) m,
   λ m. some-of-iff (eqb l) c .1 (l, m, eq-eqb l l refl),
 )
+
+pub not-member-iff : (l : ℕ) (c : List ℕ) → (member l c ≡ false) ↔ (¬ (l ∈ c))
+not-member-iff l c = (λ e m. eqb-false l l (none-of (eqb l) e m) refl, λ n. of-none (eqb l) c (λ k m. ne-eqb l k (λ e. n (Memᴰ·cast e m))))
 
 without-iff : (l k : ℕ) (c : List ℕ) → (l ∈ without k c) ↔ ((l ∈ c) × (l ≢ k))
 unfolding without

@@ -9,12 +9,12 @@ use Prim.Native.Nat.{ℕ, zero, suc, _+_, _-_, _*_, _^_, _≤_, _<_}
 use native.Mathlib.Numerals.{add-one}
 use native.Mathlib.Omega.{arith}
 use lib.Dec.{leb, eqb}
-use lib.ListN.{length, getD, take, set, replicate, length-map, length-append, length-replicate}
+use lib.ListN.{length, getD, take, set, replicate, length-map, length-append, length-replicate, List·getD-append, List·getD-map}
 use lib.Seq.{set-at, take-at, append-snoc}
 use borrow.Author.Tests.{lt-ltb, le-leb, ltb-true, leb-true, leb-false}
 use Rattle.formula.specs.Formula.{some-of, variable, is-of, out-of-range, repeats}
 use Rattle.formula.proofs.SomeLaws.{some-here, some-later, some-over, repeats-over, none-first, none-rest}
-use Rattle.bit_set.specs.BitSet.{has, including, mask}
+use Rattle.bit_set.specs.BitSet.{has, including, mask-onto, mask}
 use Rattle.bit_set.proofs.BitSetLaws.{has-none, has-including}
 use Rattle.rule_file.specs.Limits.{max-variables, max-clauses}
 use Rattle.rule_file.specs.Walk.{elements}
@@ -192,6 +192,11 @@ module _ (b : List ℕ) where
   pub table-length : clause-count b ≤ max-clauses → length (mask-table b) ≡ max-clauses
   table-length h =
       simp (length-append, length-replicate) (omega (arith, masks-length b (clause-count b)))
+
+  pub table-at : (j : ℕ) → j < clause-count b → getD (mask-table b) j 0 ≡ mask (getD (clauses b) j [])
+  unfolding mask-onto
+  table-at j h =
+      List·getD-append (map mask (clauses b)) _ 0 j (omega (arith, masks-length b (clause-count b))) ∙ List·getD-map mask (clauses b) j []
 
   pub table-begins : take (clause-count b) (mask-table b) ≡ map mask (clauses b)
   table-begins = take-at (map mask (clauses b)) _ (clause-count b) (masks-length b (clause-count b))

@@ -132,3 +132,8 @@ part-within b a from to h k =
     let whole : Within (prefix b) = (a .well-formed, a .bounded) in
     let first : Within (take to (prefix b)) = first-within _ (drop to (prefix b)) (rw take-append-drop whole) in
     rw (← (prefix-part-is b from to h k)) (second-within (take from (take to (prefix b))) _ (rw take-append-drop first))
+
+-- so is that of the prefix from a variable on
+pub denominator-within : (b : List ℕ) → Accepted b → (i : ℕ) → i ≤ variable-count b → denominator (drop i (prefix b)) ≤ max-whole
+denominator-within b a i h =
+    rw (← (last-part b i), prefix-part-is b i (variable-count b) h (le-refl _)) (part-within b a i (variable-count b) h (le-refl _) .1)

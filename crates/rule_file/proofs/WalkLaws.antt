@@ -5,7 +5,7 @@
 use mathlib.Core.Path.{_≡_, refl, sym, ap, ap₂, _∙_}
 use mathlib.Core.Bool.{Bool, true, false, cond}
 use mathlib.Core.List.{List, [], _∷_, _++_}
-use mathlib.Core.Option.{Option, none, some, Option·some-ne-none}
+use mathlib.Core.Option.{Option, none, some, Option·some-ne-none, Option·none-ne-some, Option·some-injective}
 use Prim.Native.Nat.{ℕ, zero, suc, _+_, _-_, _≤_, _<_}
 use native.Mathlib.Nat.{not-suc-le-zero, le-of-suc-le-suc}
 use native.Mathlib.Numerals.{add-one}
@@ -14,7 +14,7 @@ use lib.Dec.{eqb}
 use lib.ListN.{length, getD, take, drop}
 use borrow.Author.Tests.{eq-eqb, ne-eqb}
 use Rattle.formula.specs.Formula.{some-of}
-use Rattle.formula.proofs.SomeLaws.{none-first, none-rest}
+use Rattle.formula.proofs.SomeLaws.{none-first, none-rest, none-by-places}
 use Rattle.rule_file.specs.Walk.{start, elements, later, first, walk}
 
 -- Where elements stand
@@ -108,6 +108,10 @@ pub later-none : (o : Option ℕ) → later o ≡ none → o ≡ none
 later-none none e = refl
 later-none (some j) e = absurd (Option·some-ne-none _ e)
 
+later-some : (o : Option ℕ) (i : ℕ) → later o ≡ some i → (j : ℕ) × (o ≡ some j) × (suc j ≡ i)
+later-some none i e = absurd (Option·none-ne-some i e)
+later-some (some j) i e = (j, refl, Option·some-injective (suc j) i e)
+
 module _ {A : Type 0} (f : A → Bool) where
   first-passes : (x : A) (xs : List A) → f x ≡ true → first f (x ∷ xs) ≡ some 0
   unfolding first
@@ -136,6 +140,30 @@ module _ {A : Type 0} (f : A → Bool) where
   unfolding first
   none-first-place [] e = refl
   none-first-place (x ∷ xs) e = first-fails x xs (none-first f x xs e) ∙ ap later (none-first-place xs (none-rest f x xs e))
+
+  -- by places: the element at i passes, and none before it; or none at all
+  pub first-at : (d : A) (xs : List A) (i : ℕ) → i < length xs → ((k : ℕ) → k < i → f (getD xs k d) ≡ false) → f (getD xs i d) ≡ true → first f xs ≡ some i
+  first-at d [] i h before t = absurd (omega arith)
+  first-at d (x ∷ xs) zero h before t = first-passes x xs t
+  first-at d (x ∷ xs) (suc i) h before t =
+      first-fails x xs (before 0 (omega arith)) ∙ ap later (first-at d xs i (omega arith) (λ k h. before (suc k) (omega arith)) t)
+
+  pub first-nowhere : (d : A) (xs : List A) → ((k : ℕ) → k < length xs → f (getD xs k d) ≡ false) → first f xs ≡ none
+  first-nowhere d xs fails = none-first-place xs (none-by-places f d xs fails)
+
+  -- what is found passes
+  pub first-found : (xs : List A) (i : ℕ) (d : A) → first f xs ≡ some i → (i < length xs) × (f (getD xs i d) ≡ true)
+  unfolding first
+  first-found [] i d e = absurd (Option·none-ne-some i e)
+  first-found (x ∷ xs) i d e = go (f x) refl (first-found xs)
+    where
+      go : (t : Bool) → f x ≡ t → ((j : ℕ) (d : A) → first f xs ≡ some j → (j < length xs) × (f (getD xs j d) ≡ true))
+          → (i < suc (length xs)) × (f (getD (x ∷ xs) i d) ≡ true)
+      go true t rest = let at : 0 ≡ i = Option·some-injective 0 i (sym (first-passes x xs t) ∙ e) in rw (← at) (omega arith, t)
+      go false t rest =
+          let (j, found, at) = later-some (first f xs) i (sym (first-fails x xs t) ∙ e) in
+          let (h, u) = rest j d found in
+          rw (← at) (omega arith, u)
 
 -- what is found in the rest, counted from k
 unfoldable pub from : ℕ → Option ℕ → Option ℕ
@@ -175,7 +203,7 @@ module _ (next : ℕ → ℕ) (fits : ℕ → Bool) (end : ℕ) where
   unfolding walk
   step-fault left i f = rw (f, walk)
 
-  step-on : (left i : ℕ) → fits i ≡ true → walk next fits end (suc left) i ≡ later (walk next fits end left (next i))
+  pub step-on : (left i : ℕ) → fits i ≡ true → walk next fits end (suc left) i ≡ later (walk next fits end left (next i))
   unfolding walk
   step-on left i f = rw (f, walk)
 

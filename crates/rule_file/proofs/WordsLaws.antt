@@ -1,19 +1,20 @@
--- Checks that are Booleans, as facts, and so of a file's length; then a part of a file: its bytes, its length and its
--- words. Words one at a time are WalkLaws' elements. Assumes nothing.
-use mathlib.Core.Path.{_≡_, refl, ap, ap₂, _∙_}
-use mathlib.Core.Bool.{Bool, true, false, not}
-use mathlib.Core.List.{List, [], _∷_}
-use Prim.Native.Nat.{ℕ, zero, suc, _+_, _*_, _≤_, _<_}
+-- Checks that are Booleans, as facts, and so of a file's length; then words that stand one after another in a file; and
+-- a part of a file: its bytes, its length and its words. Words one at a time are WalkLaws' elements. Assumes nothing.
+use mathlib.Core.Path.{_≡_, refl, sym, ap, ap₂, _∙_}
+use mathlib.Core.Bool.{Bool, true, false, not, false≢true}
+use mathlib.Core.List.{List, [], _∷_, _++_}
+use Prim.Native.Nat.{ℕ, zero, suc, _+_, _-_, _*_, _≤_, _<_}
 use native.Mathlib.Nat.{add-zero}
 use native.Mathlib.Omega.{arith}
 use lib.Dec.{eqb}
-use lib.ListN.{length, take, drop, getD, length-drop}
-use lib.Seq.{length-take-le, getD-take, getD-drop}
+use lib.ListN.{length, take, drop, getD, length-append, length-drop}
+use lib.Seq.{length-take-le, getD-take, getD-drop, ext-getD, take-append-seam, drop-append-seam}
 use borrow.Author.Tests.{eq-eqb, eqb-true, le-ltb, ltb-false, le-leb, lt-leb, not-false}
 use Rattle.formula.proofs.SomeLaws.{or-false}
-use Rattle.rule_file.specs.Walk.{elements}
-use Rattle.rule_file.specs.Words.{word, word-count, words, all-words, part, wrong-length}
+use Rattle.rule_file.specs.Walk.{start, elements}
+use Rattle.rule_file.specs.Words.{word, word-count, next-word, words, all-words, part, wrong-length}
 use Rattle.rule_file.specs.Accepted.{Length}
+use Rattle.rule_file.proofs.WalkLaws.{elements-length, element-is, elements-take, elements-drop}
 
 -- a Boolean check passes exactly where its fact holds
 abbrev pub Decides : Bool → Type 0 → Type 0
@@ -25,6 +26,14 @@ fails {t} {P} d f = go t refl
     go : (s : Bool) → t ≡ s → t ≡ true
     go true e = e
     go false e = absurd (f (d .0 e))
+
+-- checks of facts that follow from each other are equal
+pub decides-same : {s t : Bool} {P Q : Type 0} → Decides s P → Decides t Q → (P → Q) → (Q → P) → s ≡ t
+decides-same {s} {t} p q to from = go s refl
+  where
+    go : (x : Bool) → s ≡ x → s ≡ t
+    go true e = e ∙ sym (fails q (λ h. false≢true (sym (p .1 (from h)) ∙ e)))
+    go false e = e ∙ sym (q .1 (to (p .0 e)))
 
 pub differs : (x y : ℕ) → Decides (not (eqb x y)) (x ≡ y)
 differs x y = (λ e. eqb-true x y (not-false _ e), λ e. ap not (eq-eqb x y e))
@@ -39,6 +48,45 @@ right-length least b = (
       record { whole-words = eqb-true _ _ (not-false _ e₁); at-least = ltb-false _ _ e₂; at-most = ltb-false _ _ e₃ },
   λ l. simp (eq-eqb _ _ (l .whole-words), le-ltb _ _ (l .at-least), le-ltb _ _ (l .at-most)),
 )
+
+-- Words that stand in a file
+
+word-start : (i j : ℕ) → start next-word i j ≡ i + j
+unfolding start
+word-start i zero = omega arith
+word-start i (suc j) = let e : i + j + 1 ≡ i + suc j = omega arith in ap (_+ 1) (word-start i j) ∙ e
+
+-- the words ws stand in the file b from word i on
+abbrev pub Stand : List ℕ → ℕ → List ℕ → Type 0
+Stand b i ws = words b i (length ws) ≡ ws
+
+module _ (b : List ℕ) (i : ℕ) where
+  word-of : (count j : ℕ) → j < count → getD (words b i count) j 0 ≡ word b (i + j)
+  word-of count j h = element-is next-word (word b) 0 count i j h ∙ ap (word b) (word-start i j)
+
+  -- word j of ws is the file's word k
+  pub stand-word : (ws : List ℕ) → Stand b i ws → (j k : ℕ) → j < length ws → i + j ≡ k → word b k ≡ getD ws j 0
+  stand-word ws s j k h e = ap (word b) (sym e) ∙ sym (word-of (length ws) j h) ∙ ap (λ l. getD l j 0) s
+
+  pub stand-by-places : (ws : List ℕ) → ((j : ℕ) → j < length ws → word b (i + j) ≡ getD ws j 0) → Stand b i ws
+  stand-by-places ws same =
+      let count : length (words b i (length ws)) ≡ length ws = elements-length next-word (word b) (length ws) i in
+      ext-getD 0 (words b i (length ws)) ws count (λ j h. word-of (length ws) j (rw count at h) ∙ same j (rw count at h))
+
+  -- the first of them, and the rest, from word k on
+  pub stand-first : (ws vs : List ℕ) → Stand b i (ws ++ vs) → Stand b i ws
+  stand-first ws vs s =
+      sym (elements-take next-word (word b) (length ws) (length (ws ++ vs)) i (simp length-append (omega arith)))
+      ∙ ap (take (length ws)) s ∙ take-append-seam ws vs
+
+  pub stand-rest : (ws vs : List ℕ) → Stand b i (ws ++ vs) → (k : ℕ) → i + length ws ≡ k → Stand b k vs
+  stand-rest ws vs s k e =
+      let left : length vs ≡ length (ws ++ vs) - length ws = simp length-append (omega arith) in
+      ap₂ (words b) (sym (word-start i (length ws) ∙ e)) left
+      ∙ sym (elements-drop next-word (word b) (length ws) (length (ws ++ vs)) i (simp length-append (omega arith)))
+      ∙ ap (drop (length ws)) s ∙ drop-append-seam ws vs
+
+-- A part of a file
 
 -- a part that would leave the file
 pub part-none : (b : List ℕ) (i k : ℕ) → word-count b < i + k → part b i k ≡ []

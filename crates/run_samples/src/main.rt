@@ -1,8 +1,9 @@
 // Runs the stored samples. Standard input is a row of records: the operation (1 read, 2 figure, 3 verdict, 4 cut,
-// 5 check, 6 clause reader), a 32-bit word; the verdict's two limits, or the cut's level and 0, two words each; the
-// lengths of the rule file and of the derivation, a word each; then the two files. Each record is answered by a line:
-// the refusal's number, with the clause, variable or line at fault where one is given, or 0 and the values. The clause
-// reader's values are the length and the literals of each clause, and `none` where no clause is left.
+// 5 check, 6 clause reader, 7 derive), a 32-bit word; the verdict's two limits, or the cut's level or the length of the
+// writer's buffer and 0, two words each; the lengths of the rule file and of the derivation, a word each; then the two
+// files. Each record is answered by a line: the refusal's number, with the clause, variable or line at fault where one
+// is given, or 0 and the values. The clause reader's values are the length and the literals of each clause, and `none`
+// where no clause is left. The writer's line ends in `right` if the record's derivation, or nothing, is what it wrote.
 use bounds::Cutting;
 use bounds::cut;
 use clause_reader::cursor::Cursor;
@@ -23,11 +24,16 @@ use value::Figuring;
 use value::Judging;
 use value::figure;
 use value::verdict;
+use writer::Deriving;
+use writer::derive;
 ghost use Prim.Native.Nat.{_<_};
 ghost use Rattle.io.specs.Counts.{Counts};
 
 // Some bytes more than a file may have, so that the operations see what is too long.
 const ROOM: usize = MAX_BYTES + 8;
+
+// What each byte holds that is lent to the writer.
+const BEFORE: u8 = 90;
 
 fn put(text: &[u8]) {
     io::write_all(STDOUT_FILENO, text);
@@ -161,6 +167,49 @@ fn put_clauses(rule: &[u8]) {
     }
 }
 
+// Whether `room` holds these bytes at its start, and after them what it held before.
+fn holds<'a>(room: &'a [u8], written: &'a [u8]) -> bool {
+    if room.len() < written.len() {
+        return false;
+    }
+    for i in 0..room.len() {
+        let byte = if i < written.len() {
+            written[i]
+        } else {
+            BEFORE
+        };
+        if room[i] != byte {
+            return false;
+        }
+    }
+    true
+}
+
+// Lends the writer so many bytes at the start of `room`, as far as there are.
+fn derive_to<'a>(rule: &'a [u8], capacity: usize, room: &'a mut [u8]) -> Deriving {
+    if room.len() < capacity {
+        return derive(rule, room);
+    }
+    derive(rule, &mut room[..capacity])
+}
+
+// The bytes after those that are lent are looked at too.
+fn put_deriving<'a>(rule: &'a [u8], capacity: usize, written: &'a [u8]) {
+    let mut room = [BEFORE; ROOM];
+    match derive_to(rule, capacity, &mut room) {
+        Deriving::Refused(refusal) => put_refusal(refusal),
+        Deriving::Answered(length) => {
+            put_number(0);
+            put_value(length as u64);
+        }
+    }
+    if holds(&room, written) {
+        put(b" right");
+    } else {
+        put(b" wrong");
+    }
+}
+
 fn put_answer<'a>(operation: usize, a: u64, b: u64, rule: &'a [u8], derivation: &'a [u8]) {
     match operation {
         1 => put_reading(rule),
@@ -169,6 +218,7 @@ fn put_answer<'a>(operation: usize, a: u64, b: u64, rule: &'a [u8], derivation: 
         4 => put_cut(rule, a),
         5 => put_checking(rule, derivation),
         6 => put_clauses(rule),
+        7 => put_deriving(rule, a as usize, derivation),
         _ => put(b"no operation"),
     }
     put(b"\n");

@@ -14,6 +14,9 @@ use Rattle.bounds.specs.Cut.{cut-file}
 use Rattle.resolution.specs.Resolution.{level, without, is-resolvent, lookup, require, judge-resolvent, judge, first-refusal, judge-from, empty-value}
 use Rattle.derivation.specs.DerivationFile.{value-at, line-of, after-line}
 use Rattle.derivation.specs.Check.{wrong-counts, line-fits, line-fails, check-from-21, check-from-17, check-from-15, check-from-13, check-file}
+use Rattle.writing.specs.Writing.{below, rising, opposites-from, walk-tree}
+use Rattle.writing.specs.File.{line-words, lines-words, derivation-words}
+use Rattle.writing.specs.Derive.{derivation-for, too-long, derive-file}
 use Rattle.samples.specs.Samples.{Sample, ask, samples}
 
 pub samples-hold : map (λ (s : Sample). ask (s .question)) samples ≡ map (λ (s : Sample). s .outcome) samples
@@ -23,5 +26,6 @@ unfolding literal-status clause-status formula-status some-of all-of out-of-rang
     figure-file verdict verdict-file cut-file
     level without is-resolvent lookup require judge-resolvent judge first-refusal judge-from empty-value
     value-at line-of after-line wrong-counts line-fits line-fails check-from-21 check-from-17 check-from-15 check-from-13 check-file
+    below rising opposites-from walk-tree line-words lines-words derivation-words derivation-for too-long derive-file
     ask samples
 samples-hold = refl

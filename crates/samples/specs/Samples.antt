@@ -1,28 +1,31 @@
--- Document 01's samples P1 to P12, and the places that document 02 (i) adds to refusals, in one list: each a question
--- to an operation, and the answer that it must give. Assumes nothing.
+-- Document 01's samples P1 to P12, the places that document 02 (i) adds to refusals and the derivations that (ii)
+-- writes, in one list: each a question to an operation, and the answer that it must give. Assumes nothing.
 use mathlib.Core.List.{List, [], _∷_}
 use Prim.Native.Nat.{ℕ}
 use Rattle.buffer.specs.Bytes.{bytes-of}
 use Rattle.rule_file.specs.Answer.{Answer, refused, answer}
-use Rattle.rule_file.specs.declared.Refusal.the-variants.{At}
+use Rattle.rule_file.specs.declared.Refusal.the-variants.{Alone, At}
 use Rattle.value.specs.declared.Ratio.{Ratio}
 use Rattle.value.specs.Value.{figure-file, Verdict, above, below, within, verdict-file}
 use Rattle.bounds.specs.declared.Bounds.{Bounds}
 use Rattle.bounds.specs.Cut.{cut-file}
 use Rattle.derivation.specs.declared.Closing.{Closing}
 use Rattle.derivation.specs.Check.{check-file}
+use Rattle.writing.specs.Derive.{derive-file}
 
 pub data Question : Type 0 where
   figure : List ℕ → Question
   verdict : List ℕ → ℕ → ℕ → Question
   cut : List ℕ → ℕ → Question
   check : List ℕ → List ℕ → Question
+  derive : List ℕ → ℕ → Question
 
 pub data Outcome : Type 0 where
   figured : Answer Ratio → Outcome
   judged : Answer Verdict → Outcome
   bounded : Answer Bounds → Outcome
   checked : Answer Closing → Outcome
+  written : Answer (List ℕ) → Outcome
 
 -- what the operation answers, by the definition that its contract cites
 unfoldable pub ask : Question → Outcome
@@ -30,6 +33,7 @@ ask (figure ws) = figured (figure-file (bytes-of ws))
 ask (verdict ws lo hi) = judged (verdict-file (bytes-of ws) lo hi)
 ask (cut ws level) = bounded (cut-file (bytes-of ws) level)
 ask (check ws ds) = checked (check-file (bytes-of ws) (bytes-of ds))
+ask (derive ws capacity) = written (derive-file (bytes-of ws) capacity)
 
 -- a figure out of a whole
 abbrev out-of : ℕ → ℕ → Outcome
@@ -98,4 +102,10 @@ samples =
     sample (figure variable-twice) (refused-at 7 1) ∷
     -- 8: weights 0:0, 0:1 and 1:0
     sample (figure (0 ∷ 0 ∷ 0 ∷ 1 ∷ 1 ∷ 0 ∷ 0 ∷ 3 ∷ 0 ∷ 10 ∷ [])) (refused-at 8 1) ∷
+    -- the example's derivation, written into its 168 bytes; 22 for a buffer of one less
+    sample (derive example 168) (written (answer (bytes-of derivation))) ∷
+    sample (derive example 167) (written (refused (Alone 22))) ∷
+    -- of no clauses: one line, empty; of one empty clause: no line, and the clause named
+    sample (derive (0 ∷ 0 ∷ 0 ∷ 4 ∷ []) 28) (written (answer (bytes-of (1 ∷ 0 ∷ 1 ∷ 0 ∷ 1 ∷ 1 ∷ 7 ∷ [])))) ∷
+    sample (derive (0 ∷ 1 ∷ 0 ∷ 1 ∷ 5 ∷ []) 12) (written (answer (bytes-of (0 ∷ 0 ∷ 3 ∷ [])))) ∷
     []

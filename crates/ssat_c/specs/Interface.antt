@@ -41,3 +41,6 @@ bounds-values x = x .lower ∷ x .upper ∷ x .undetermined ∷ 0 ∷ []
 
 abbrev pub closing-values : Closing → List ℕ
 closing-values x = x .value ∷ x .whole ∷ 0 ∷ 0 ∷ []
+
+abbrev pub length-values : ℕ → List ℕ
+length-values n = n ∷ 0 ∷ 0 ∷ 0 ∷ []

@@ -11,7 +11,10 @@ use value::Figuring;
 use value::Judging;
 use value::figure;
 use value::verdict;
+use writer::Deriving;
+use writer::derive;
 ghost use mathlib.Core.Path.{_≡_};
+ghost use lib.ListN.{length};
 ghost use lib.Seq.{sets};
 ghost use mathlib.Core.List.{[], _∷_};
 ghost use Rattle.rule_file.specs.Answer.{number-of, place-of};
@@ -19,7 +22,8 @@ ghost use Rattle.rule_file.specs.Reader.{read-file};
 ghost use Rattle.value.specs.Value.{figure-file, verdict-file};
 ghost use Rattle.bounds.specs.Cut.{cut-file};
 ghost use Rattle.derivation.specs.Check.{check-file};
-ghost use Rattle.ssat_c.specs.Interface.{code, placed, filled, header-values, ratio-values, verdict-values, bounds-values, closing-values};
+ghost use Rattle.writing.specs.Derive.{derive-file, length-of, buffer-after};
+ghost use Rattle.ssat_c.specs.Interface.{code, placed, filled, header-values, ratio-values, verdict-values, bounds-values, closing-values, length-values};
 
 // An answer fills out and returns 0.
 fn fill(out: &mut [u64; 4], a: u64, b: u64, c: u64, d: u64) -> u32
@@ -118,5 +122,19 @@ pub extern "C" fn ssat_check<'a>(rule: &'a [u8], derivation: &'a [u8], out: &mut
     match check(rule, derivation) {
         Checking::Refused(refusal) => refuse(out, refusal),
         Checking::Accepted(x) => fill(out, x.value, x.whole, 0, 0),
+    }
+}
+
+// The derivation's length in bytes.
+#[no_mangle]
+pub extern "C" fn ssat_derive(rule: &[u8], buffer: &mut [u8], out: &mut [u64; 4]) -> u32
+    ensures returned { λ r. ⌜ r ≡ code (length-of (derive-file (now (rule .entry)) (length (now (buffer .entry))))) ⌝ }
+    ensures stored { λ _. ⌜ now (out .exit) ≡ filled length-values (length-of (derive-file (now (rule .entry)) (length (now (buffer .entry))))) (now (out .entry)) ⌝ }
+    ensures written { λ _. ⌜ now (buffer .exit) ≡ buffer-after (derive-file (now (rule .entry)) (length (now (buffer .entry)))) (now (buffer .entry)) ⌝ }
+    ensures unchanged { λ _. ⌜ now (rule .exit) ≡ now (rule .entry) ⌝ }
+{
+    match derive(rule, buffer) {
+        Deriving::Refused(refusal) => refuse(out, refusal),
+        Deriving::Answered(length) => fill(out, length as u64, 0, 0, 0),
     }
 }

@@ -1,29 +1,32 @@
-//! The five operations, as the C interface answers them, and the clause reader, which it has not.
+//! The six operations, as the C interface answers them, and the clause reader, which it has not.
 
 use crate::derivation;
 use crate::enumerate;
 use crate::rules::{self, Fault, Rules};
 use crate::tables::Tables;
+use crate::writer;
 
 /// With at most this many variables the answers come from full enumeration.
 pub const SMALL: usize = 7;
 
 /// A return value, and the numbers that go to `out` from index 0: the answer's for 0, the place of a
 /// refusal that has one, else none.
-#[derive(Clone, Debug, PartialEq, Eq)]
+#[derive(Clone, Debug, Default, PartialEq, Eq)]
 pub struct Answer {
     pub code: u32,
     pub numbers: Vec<u64>,
+    /// What the writer puts at the start of its buffer.
+    pub written: Vec<u8>,
 }
 
 impl Answer {
     pub fn refused((code, place): Fault) -> Answer {
-        Answer { code, numbers: place.map(|place| place as u64).into_iter().collect() }
+        Answer { code, numbers: place.map(|place| place as u64).into_iter().collect(), ..Answer::default() }
     }
 
     pub fn numbers(numbers: &[u128]) -> Answer {
         let small = |&number: &u128| u64::try_from(number).expect("every number is at most the whole");
-        Answer { code: 0, numbers: numbers.iter().map(small).collect() }
+        Answer { numbers: numbers.iter().map(small).collect(), ..Answer::default() }
     }
 
     /// The content of `out` after the call: an answer sets what it does not fill to 0, a
@@ -32,6 +35,11 @@ impl Answer {
         let mut out = if self.code == 0 { [0; 4] } else { before };
         out[..self.numbers.len()].copy_from_slice(&self.numbers);
         out
+    }
+
+    /// The content of the writer's buffer after the call.
+    pub fn buffer(&self, before: &[u8]) -> Vec<u8> {
+        [&self.written, &before[self.written.len()..]].concat()
     }
 }
 
@@ -126,6 +134,14 @@ impl<'a> Solver<'a> {
             Err(fault) => Answer::refused(fault),
         })
     }
+
+    /// The writer, lent a buffer of `capacity` bytes: how many it writes.
+    pub fn derive(&self, capacity: usize) -> Answer {
+        self.with(|rules| match writer::derive(rules, capacity) {
+            Some(written) => Answer { numbers: vec![written.len() as u64], written, ..Answer::default() },
+            None => Answer::refused((22, None)),
+        })
+    }
 }
 
 /// Reads a rule file and answers one operation; for tests and samples.
@@ -144,5 +160,5 @@ pub fn clauses(rule: &[u8]) -> Answer {
         numbers.push(clause.len() as u64);
         numbers.extend(clause.iter().map(|&literal| u64::from(literal)));
     }
-    Answer { code: 0, numbers }
+    Answer { numbers, ..Answer::default() }
 }

@@ -11,6 +11,8 @@ pub enum Operation {
     Verdict(u64, u64),
     Cut(u64),
     Check(Vec<u8>),
+    /// The writer, with a buffer of this many bytes.
+    Derive(usize),
     /// The clause reader, from clause 0 until none is left.
     Clauses,
 }
@@ -32,37 +34,40 @@ impl Case {
             Operation::Verdict(lo, hi) => solver.verdict(*lo, *hi),
             Operation::Cut(level) => solver.cut(*level),
             Operation::Check(derivation) => solver.check(derivation),
+            Operation::Derive(capacity) => solver.derive(*capacity),
             Operation::Clauses => clauses(&self.rule),
         })
     }
 
     /// The case as a record of the program `run_samples`.
     pub fn record(&self) -> Vec<u8> {
-        let (operation, a, b, derivation): (u32, u64, u64, &[u8]) = match &self.operation {
+        let (operation, a, b, second): (u32, u64, u64, &[u8]) = match &self.operation {
             Operation::Read => (1, 0, 0, &[]),
             Operation::Figure => (2, 0, 0, &[]),
             Operation::Verdict(lo, hi) => (3, *lo, *hi, &[]),
             Operation::Cut(level) => (4, *level, 0, &[]),
             Operation::Check(derivation) => (5, 0, 0, derivation),
             Operation::Clauses => (6, 0, 0, &[]),
+            Operation::Derive(capacity) => (7, *capacity as u64, 0, &self.expected.written),
         };
         let mut record = to_bytes(&[operation]);
         record.extend([a, b].iter().flat_map(|number| number.to_le_bytes()));
-        record.extend(to_bytes(&[self.rule.len() as u32, derivation.len() as u32]));
+        record.extend(to_bytes(&[self.rule.len() as u32, second.len() as u32]));
         record.extend(&self.rule);
-        record.extend(derivation);
+        record.extend(second);
         record
     }
 
     /// The line that `run_samples` must write for it.
     pub fn line(&self) -> String {
-        let Answer { code, numbers } = &self.expected;
+        let Answer { code, numbers, .. } = &self.expected;
         let all = numbers.iter().fold(code.to_string(), |line, number| format!("{line} {number}"));
         match (&self.operation, &numbers[..]) {
             (Operation::Verdict(..), [1, _]) => format!("{code} above\n"),
             (Operation::Verdict(..), [2, _]) => format!("{code} below\n"),
             (Operation::Verdict(..), [_, figure]) => format!("{code} within {figure}\n"),
             (Operation::Clauses, _) if *code == 0 => all + " none\n",
+            (Operation::Derive(_), _) => all + " right\n",
             _ => all + "\n",
         }
     }

@@ -9,6 +9,7 @@ mod raw {
         pub fn ssat_verdict(rule: *const u8, len: usize, lo: u64, hi: u64, out: *mut u64) -> u32;
         pub fn ssat_cut(rule: *const u8, len: usize, level: u64, out: *mut u64) -> u32;
         pub fn ssat_check(rule: *const u8, len: usize, derivation: *const u8, dlen: usize, out: *mut u64) -> u32;
+        pub fn ssat_derive(rule: *const u8, len: usize, buffer: *mut u8, capacity: usize, out: *mut u64) -> u32;
     }
 }
 
@@ -31,7 +32,12 @@ const FILL: u8 = 0x5a;
 /// The longest buffer that can be lent.
 pub const LONGEST: usize = 17 * 4_096;
 
-/// One lent buffer, and the bytes that it must still hold after each call.
+/// What stands in the writer's buffer of so many bytes before each call.
+pub fn buffer_before(capacity: usize) -> Vec<u8> {
+    (0..capacity).map(|at| (at * 37 + 11) as u8).collect()
+}
+
+/// One lent buffer, and the bytes that it held then.
 struct Lent {
     pages: Guarded,
     place: Place,
@@ -62,21 +68,34 @@ impl Lent {
         self.pages.all()[new].copy_from_slice(bytes);
     }
 
-    fn start(&mut self) -> *const u8 {
+    fn start(&mut self) -> *mut u8 {
         let at = self.range().start;
-        unsafe { self.pages.all().as_ptr().add(at) }
+        unsafe { self.pages.all().as_mut_ptr().add(at) }
     }
 
-    /// Panics if a lent byte, or one of the next 64 beside it, changed.
-    fn unchanged(&mut self, what: &str) {
+    /// Panics if one of the next 64 bytes beside the lent ones changed.
+    fn beside_unchanged(&mut self, what: &str) {
         let range = self.range();
         let all = self.pages.all();
-        assert!(all[range.clone()] == self.bytes[..], "a lent byte of the {what} changed");
         let beside = match self.place {
             Place::AtEnd => &all[range.start.saturating_sub(64)..range.start],
             Place::AtStart => &all[range.end..(range.end + 64).min(LONGEST)],
         };
         assert!(beside.iter().all(|byte| *byte == FILL), "a byte beside the {what} changed");
+    }
+
+    /// Panics if a lent byte, or one beside it, changed.
+    fn unchanged(&mut self, what: &str) {
+        self.beside_unchanged(what);
+        let range = self.range();
+        assert!(self.pages.all()[range] == self.bytes[..], "a lent byte of the {what} changed");
+    }
+
+    /// The lent bytes. Panics if one beside them changed.
+    fn content(&mut self, what: &str) -> Vec<u8> {
+        self.beside_unchanged(what);
+        let range = self.range();
+        self.pages.all()[range].to_vec()
     }
 }
 
@@ -84,6 +103,7 @@ impl Lent {
 pub struct Library {
     rule: Lent,
     derivation: Lent,
+    buffer: Lent,
     out: Guarded,
 }
 
@@ -95,7 +115,7 @@ impl Default for Library {
 
 impl Library {
     pub fn new() -> Library {
-        Library { rule: Lent::new(), derivation: Lent::new(), out: Guarded::new(1) }
+        Library { rule: Lent::new(), derivation: Lent::new(), buffer: Lent::new(), out: Guarded::new(1) }
     }
 
     pub fn lend_rule(&mut self, bytes: &[u8], place: Place) {
@@ -149,6 +169,14 @@ impl Library {
     pub fn check(&mut self) -> Returned {
         self.call(|rule, len, derivation, dlen, out| unsafe { raw::ssat_check(rule, len, derivation, dlen, out) })
     }
+
+    /// Lends the writer a buffer of `capacity` bytes: also what it holds after the call.
+    pub fn derive(&mut self, capacity: usize, place: Place) -> (Returned, Vec<u8>) {
+        self.buffer.lend(&buffer_before(capacity), place);
+        let buffer = self.buffer.start();
+        let returned = self.call(|rule, len, _, _, out| unsafe { raw::ssat_derive(rule, len, buffer, capacity, out) });
+        (returned, self.buffer.content("buffer"))
+    }
 }
 
 /// Plain calls on slices, for the benchmark.
@@ -170,6 +198,13 @@ pub mod plain {
         let code = unsafe {
             raw::ssat_check(rule.as_ptr(), rule.len(), derivation.as_ptr(), derivation.len(), out.as_mut_ptr())
         };
+        (code, out)
+    }
+
+    pub fn derive(rule: &[u8], buffer: &mut [u8]) -> Returned {
+        let mut out = [0; 4];
+        let code =
+            unsafe { raw::ssat_derive(rule.as_ptr(), rule.len(), buffer.as_mut_ptr(), buffer.len(), out.as_mut_ptr()) };
         (code, out)
     }
 }

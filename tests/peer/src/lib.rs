@@ -1,6 +1,6 @@
 //! A second SSAT solver, written apart from the proved one and not proved.
 //!
-//! It reads the same files and answers the same five operations and the clause reader, by its own
+//! It reads the same files and answers the same six operations and the clause reader, by its own
 //! methods, so that the two can be compared. A set of literals is kept as a 64-bit mask (bit `l` for literal
 //! `l`): with at most 32 variables every literal is under 64.
 //!
@@ -29,6 +29,7 @@ pub mod rules;
 pub mod samples;
 pub mod tables;
 pub mod walk;
+pub mod writer;
 
 /// A set of literals, bit `l` for literal `l`.
 pub type Literals = u64;
@@ -42,6 +43,11 @@ pub fn opposites(set: Literals) -> Literals {
 /// The level of a clause: 0 if it is empty, else 1 + its highest variable.
 pub fn level(set: Literals) -> usize {
     (64 - set.leading_zeros() as usize).div_ceil(2)
+}
+
+/// The literals of a set, rising.
+pub fn literals_of(set: Literals) -> Vec<u32> {
+    (0..64).filter(|literal| set >> literal & 1 == 1).collect()
 }
 
 /// Words, least byte first, as bytes.

@@ -6,11 +6,11 @@
 //!
 //! | Words | Content |
 //! |---|---|
-//! | 0 | the operation: 1 read, 2 figure, 3 verdict, 4 cut, 5 check, 6 clauses |
-//! | 1, 2 | the verdict's lo or the cut's level, low word first; else 0 |
+//! | 0 | the operation: 1 read, 2 figure, 3 verdict, 4 cut, 5 check, 6 clauses, 7 derive |
+//! | 1, 2 | the verdict's lo, the cut's level or the length of the writer's buffer, low word first; else 0 |
 //! | 3, 4 | the verdict's hi; else 0 |
 //! | 5 | the length of the rule file in bytes |
-//! | 6 | the length of the derivation in bytes; 0 for any operation but 5 |
+//! | 6 | the length of the derivation in bytes: for 5 the one to check, for 7 the one to be written; else 0 |
 //!
 //! Then come the bytes of the rule file and those of the derivation. It answers each record by a line, closed by a line
 //! feed. A refusal is its number, with a blank and the clause, variable or line at fault where one is given. An answer
@@ -24,20 +24,24 @@
 //! | 4 | `0 lower upper open` |
 //! | 5 | `0 value whole` |
 //! | 6 | `0`, then for each clause in order its length and its literals as they stand, then `none` |
+//! | 7 | `0 length right`; `right` stands after a refusal too |
 //!
-//! So 6 gives `0 2 0 2 1 3 2 2 4 none` for clauses {0, 2}, {3}, {2, 4}, and `0 none` where there are no clauses.
+//! So 6 gives `0 2 0 2 1 3 2 2 4 none` for clauses {0, 2}, {3}, {2, 4}, and `0 none` where there are no clauses. For 7
+//! the line ends in `wrong` instead if the buffer is another than it must be: the derivation, and after it what was
+//! there before.
 
 use crate::answer::Answer;
 use crate::cases::{Case, Operation};
-use crate::generate::{sample, DerivationDraft, LineDraft, RuleDraft};
+use crate::generate::{sample, RuleDraft};
 use crate::to_bytes;
+use crate::writer::{DerivationDraft, LineDraft};
 
 #[derive(Default)]
 struct List(Vec<Case>);
 
 impl List {
     fn add(&mut self, name: impl Into<String>, rule: &[u8], operation: Operation, code: u32, numbers: &[u64]) {
-        let expected = Answer { code, numbers: numbers.to_vec() };
+        let expected = Answer { code, numbers: numbers.to_vec(), ..Answer::default() };
         self.0.push(Case { name: name.into(), rule: rule.to_vec(), operation, expected });
     }
 
@@ -55,6 +59,8 @@ impl List {
         self.add(format!("{name}-cut"), &rule, Operation::Cut(40), code, place);
         self.add(format!("{name}-check"), &rule, Operation::Check(derivation), code, place);
         self.add(format!("{name}-clauses"), &rule, Operation::Clauses, code, place);
+        // A buffer too short for any derivation: 22 stands after the reader's refusals.
+        self.add(format!("{name}-derive"), &rule, Operation::Derive(11), code, place);
     }
 
     fn figure(&mut self, name: &str, rule: &RuleDraft, value: u64, whole: u64) {
@@ -68,6 +74,25 @@ impl List {
     fn check(&mut self, name: &str, rule: &RuleDraft, words: &[u32], code: u32, numbers: &[u64]) {
         self.add(name, &rule.bytes(), Operation::Check(to_bytes(words)), code, numbers);
     }
+
+    /// A derivation that is written to a buffer of `capacity` bytes.
+    fn derive(&mut self, name: impl Into<String>, rule: &RuleDraft, capacity: usize, words: &[u32]) {
+        self.add(name, &rule.bytes(), Operation::Derive(capacity), 0, &[4 * words.len() as u64]);
+        self.0.last_mut().unwrap().expected.written = to_bytes(words);
+    }
+
+    /// A derivation that exceeds a buffer of `capacity` bytes, or another limit.
+    fn too_long(&mut self, name: impl Into<String>, rule: &RuleDraft, capacity: usize) {
+        self.add(name, &rule.bytes(), Operation::Derive(capacity), 22, &[]);
+    }
+
+    /// A derivation on both sides of its border: a buffer of its length, one of more and one of a byte less.
+    fn derived(&mut self, name: &str, rule: &RuleDraft, words: &[u32]) {
+        let length = 4 * words.len();
+        self.derive(name, rule, length, words);
+        self.derive(format!("{name}-more"), rule, length + 5, words);
+        self.too_long(format!("{name}-less"), rule, length - 1);
+    }
 }
 
 pub fn cases() -> Vec<Case> {
@@ -80,6 +105,8 @@ pub fn cases() -> Vec<Case> {
     levels_and_limits(&mut list);
     derivations(&mut list);
     clauses(&mut list);
+    written(&mut list);
+    written_lengths(&mut list);
     list.0
 }
 
@@ -641,4 +668,181 @@ fn clauses(list: &mut List) {
     let short = RuleDraft { clauses: (0..1_024).map(|at| vec![at % 64]).collect(), prefix: vec![[0, 0]; 32] };
     let numbers: Vec<u64> = (0..1_024).flat_map(|at| [1, at % 64]).collect();
     list.clauses("clauses-1024-short", &short, &numbers);
+}
+
+/// What the writer writes.
+fn written(list: &mut List) {
+    let (rule, derivation) = sample();
+    for capacity in 0..=172 {
+        let name = format!("derive-sample-{capacity}");
+        if capacity < 168 {
+            list.too_long(name, &rule, capacity);
+        } else {
+            list.derive(name, &rule, capacity, &derivation.words());
+        }
+    }
+
+    // An empty clause closes at once, the first of them.
+    list.derived("derive-empty-clause", &RuleDraft::new(&[&[0], &[], &[1], &[]], &[[3, 1]]), &[0, 2, 3]);
+    list.derived("derive-n-0-falsified", &RuleDraft::new(&[&[]], &[]), &[0, 0, 3]);
+    // No clauses: one line without literals, whose value is the whole.
+    list.derived("derive-n-0-satisfied", &RuleDraft::new(&[], &[]), &[1, 0, 1, 0, 1, 1, 7]);
+    let none = RuleDraft { clauses: Vec::new(), prefix: rule.prefix };
+    list.derived("derive-no-clauses", &none, &[1, 0, 50, 0, 1, 1, 7]);
+    let none = RuleDraft { clauses: Vec::new(), prefix: vec![[1, 3]; 30] };
+    list.derived("derive-whole-2^60", &none, &[1, 0, 0, 1 << 28, 1, 1, 7]);
+
+    // Clause {0} twice: the first is named.
+    let twice = RuleDraft::new(&[&[0], &[0]], &[[3, 1]]);
+    list.derived("derive-clause-twice", &twice, &[1, 1, 1, 1, 0, 2, 0, 3, 0, 0, 1, 0, 2, 3, 15]);
+
+    // {2} and {3} are resolved under variable 0's being true, to the empty clause: it serves above, and the false side
+    // is skipped. The same below 31 variables.
+    let serves = RuleDraft::new(&[&[2], &[3]], &[[1, 1], [1, 1]]);
+    list.derived("derive-true-side-serves", &serves, &[2, 0, 0, 0, 1, 2, 0, 1, 1, 10]);
+    let serves = RuleDraft::new(&[&[62], &[63]], &[[0, 0]; 32]);
+    list.derived("derive-true-side-serves-31-times", &serves, &[2, 0, 0, 0, 31, 2, 0, 1, 1, 10]);
+    // On the true side {3} and {1, 2} give {1}, on the false side {3} and {2} give the empty clause, which serves. The
+    // line for the true side stays, unused.
+    let serves = RuleDraft::new(&[&[1, 2], &[3], &[2]], &[[1, 1], [1, 1]]);
+    let lines = [&[2, 1, 1, 0, 0, 1, 2, 0][..], &[2, 0, 0, 0, 1, 2, 4], &[2, 3, 18]];
+    list.derived("derive-false-side-serves", &serves, &lines.concat());
+    // {0, 5} and {0, 4} are resolved on variable 2; the resolvent {0} jumps over variable 1, a draw. A value but 0
+    // comes from a line with the whole path, over which none jumps.
+    let skips = RuleDraft::new(&[&[0, 4], &[0, 5]], &[[1, 1], [2, 1], [3, 1]]);
+    let lines = [&[1, 1, 1, 12, 0][..], &[2, 1, 0, 0, 0, 2, 2, 0], &[2, 0, 12, 0, 0, 1, 3], &[3, 5, 23]];
+    list.derived("derive-draw-skipped", &skips, &lines.concat());
+
+    // Clauses with falling literals: a line's literals rise, those of a path and those of two clauses.
+    let falling = RuleDraft::new(&[&[4, 2, 0]], &[[0, 0]; 3]);
+    let lines = [
+        &[1, 1, 1, 1, 0][..],
+        &[1, 2, 0, 3, 1, 0],
+        &[1, 3, 0, 2, 5, 1, 0],
+        &[2, 2, 0, 2, 1, 0, 2, 5, 0],
+        &[2, 1, 0, 1, 0, 1, 3, 7],
+        &[2, 0, 1, 0, 0, 1, 9],
+        &[6, 11, 45],
+    ];
+    list.derived("derive-path-rising", &falling, &lines.concat());
+    let falling = RuleDraft::new(&[&[4, 2, 0], &[5, 2, 0], &[1], &[3]], &[[0, 0]; 3]);
+    let lines = [&[2, 2, 0, 2, 0, 0, 2, 2, 0][..], &[2, 1, 0, 0, 0, 1, 6, 1], &[2, 0, 0, 0, 0, 4, 3], &[3, 5, 27]];
+    list.derived("derive-resolvent-rising", &falling, &lines.concat());
+
+    // Thirty variables that must be false, of false weight 3: the line of level d has the value 3^(30 - d), over 2^32
+    // at the last.
+    let all_false = RuleDraft { clauses: (0..30).map(|v| vec![2 * v + 1]).collect(), prefix: vec![[1, 3]; 30] };
+    let line =
+        |d: u32, resolved| LineDraft { literals: (0..d).map(|v| 2 * v).collect(), value: 3u64.pow(30 - d), resolved };
+    let mut lines = vec![line(30, None)];
+    lines.extend((0..30).rev().map(|d| line(d, Some([d, 2 * d, 2 * (29 - d) + 1]))));
+    list.derived("derive-values-over-2^32", &all_false, &DerivationDraft { lines, closing: 61 }.words());
+}
+
+/// What stands at a node of level `t` of the trees below.
+enum Comb {
+    /// The node is lost by this clause.
+    Lost(u32),
+    /// The next variables must be true: where one is false, its clause is lost; where all are true, all clauses are
+    /// met.
+    Clauses(Vec<u32>),
+}
+
+/// Writes the lines for a tree over existential variables whose nodes of level `t` are `comb`s, numbered as the walk
+/// comes to them, and where each line has the opposites of its node's whole path. The clauses themselves are not looked
+/// at: the lines follow from the tree.
+struct Lines<F> {
+    t: u32,
+    comb: F,
+    lines: Vec<LineDraft>,
+}
+
+impl<F: Fn(u32) -> Comb> Lines<F> {
+    /// The reference and the value of the new line.
+    fn write(&mut self, path: &[u32], value: u64, resolved: Option<[u32; 3]>) -> (u32, u64) {
+        self.lines.push(LineDraft { literals: path.to_vec(), value, resolved });
+        (2 * self.lines.len() as u32 - 1, value)
+    }
+
+    /// What stands for the node of a comb with these clauses left.
+    fn comb(&mut self, path: &[u32], clauses: &[u32]) -> (u32, u64) {
+        let Some((&clause, after)) = clauses.split_first() else {
+            return self.write(path, 1, None);
+        };
+        let v = path.len() as u32;
+        let (on_true, value) = self.comb(&[path, &[2 * v + 1]].concat(), after);
+        self.write(path, value, Some([v, on_true, 2 * clause]))
+    }
+
+    /// What stands for a node of level at most `t`.
+    fn node(&mut self, path: &[u32], number: u32) -> (u32, u64) {
+        let v = path.len() as u32;
+        if v == self.t {
+            return match (self.comb)(number) {
+                Comb::Lost(clause) => (2 * clause, 0),
+                Comb::Clauses(clauses) => self.comb(path, &clauses),
+            };
+        }
+        let (on_true, p) = self.node(&[path, &[2 * v + 1]].concat(), 2 * number);
+        let (on_false, q) = self.node(&[path, &[2 * v]].concat(), 2 * number + 1);
+        self.write(path, p.max(q), Some([v, on_true, on_false]))
+    }
+}
+
+/// The derivation for such a tree.
+fn combs(t: u32, comb: impl Fn(u32) -> Comb) -> DerivationDraft {
+    let mut lines = Lines { t, comb, lines: Vec::new() };
+    let closing = lines.node(&[], 0).0;
+    DerivationDraft { lines: lines.lines, closing }
+}
+
+/// The opposites of the path to a node of level `t`.
+fn path(t: u32, number: u32) -> Vec<u32> {
+    (0..t).map(|v| 2 * v + 1 - (number >> (t - 1 - v) & 1)).collect()
+}
+
+/// The borders of 1,024 lines and 65,536 bytes.
+fn written_lengths(list: &mut List) {
+    // Clauses {16} and {18} make 255 lines above level 8 and three at each of its 256 nodes. A third clause at a node,
+    // {.., 20} with the opposites of its path, is one line more.
+    let lines = |longer: u32| {
+        let mut clauses = vec![vec![16], vec![18]];
+        clauses.extend((0..longer).map(|node| [path(8, node), vec![20]].concat()));
+        let comb = |node| Comb::Clauses(if node < longer { vec![0, 1, 2 + node] } else { vec![0, 1] });
+        (RuleDraft { clauses, prefix: vec![[0, 0]; 11] }, combs(8, comb))
+    };
+    let (rule, draft) = lines(1);
+    assert_eq!((draft.lines.len(), draft.bytes().len()), (1_024, 59_456));
+    list.derive("derive-lines-1024", &rule, 65_536, &draft.words());
+    let (rule, draft) = lines(2);
+    assert_eq!((draft.lines.len(), draft.bytes().len()), (1_025, 59_528));
+    list.too_long("derive-lines-1025", &rule, 65_536);
+
+    // A line of level d has 7 + d words, or 4 + d where all clauses are met. Of the nodes of level t some are lost,
+    // some have a comb of c clauses and the rest one of c + 1. All t to 7 and c to 31 - t were tried: t = 7 and c = 6
+    // is the least c that reaches 16,384 words, and 16,385.
+    let bytes = |lost: u32, short: u32| {
+        let mut clauses: Vec<Vec<u32>> = (7..13).map(|v| vec![2 * v]).collect();
+        clauses.extend((0..lost).map(|node| path(7, node)));
+        clauses.extend((lost + short..128).map(|node| [path(7, node), vec![26]].concat()));
+        let comb = |node| {
+            if node < lost {
+                return Comb::Lost(6 + node);
+            }
+            let last = (node >= lost + short).then(|| 6 + node - short);
+            Comb::Clauses((0..6).chain(last).collect())
+        };
+        (RuleDraft { clauses, prefix: vec![[0, 0]; 14] }, combs(7, comb))
+    };
+    let (rule, draft) = bytes(17, 17);
+    assert_eq!((draft.lines.len(), draft.bytes().len()), (998, 65_536));
+    list.derive("derive-bytes-65536", &rule, 65_536, &draft.words());
+    list.too_long("derive-bytes-65536-less", &rule, 65_535);
+    let (rule, draft) = bytes(15, 30);
+    assert_eq!((draft.lines.len(), draft.bytes().len()), (1_001, 65_540));
+    list.too_long("derive-bytes-65540", &rule, 65_540);
+
+    // One clause of one literal, on the last of 32 variables: over 2^32 lines.
+    let last = RuleDraft { clauses: vec![vec![62]], prefix: vec![[0, 0]; 32] };
+    list.too_long("derive-lines-2^32", &last, 65_536);
 }

@@ -1,10 +1,11 @@
 //! The peer by itself: document 01's samples, and its methods against each other.
 
 use peer::answer::{answer, Answer};
-use peer::generate::{self, DerivationDraft, LineDraft, RuleDraft};
+use peer::generate::{self, RuleDraft};
 use peer::random::Random;
 use peer::rules::{self, Rules};
 use peer::tables::Tables;
+use peer::writer::{self, DerivationDraft, Limits, LineDraft};
 use peer::{derivation, enumerate, to_bytes, to_words, walk};
 
 fn rules_of(draft: &RuleDraft) -> Rules {
@@ -12,7 +13,7 @@ fn rules_of(draft: &RuleDraft) -> Rules {
 }
 
 fn numbers(list: &[u64]) -> Answer {
-    Answer { code: 0, numbers: list.to_vec() }
+    Answer { numbers: list.to_vec(), ..Answer::default() }
 }
 
 #[test]
@@ -126,12 +127,24 @@ fn methods_agree_on_long_files() {
     assert!(compared > 150, "{compared} files compared");
 }
 
-/// The plain walk gives document 01's derivation.
+/// The writer gives document 01's derivation.
 #[test]
 fn writer_gives_the_sample() {
     let (rule, expected) = generate::sample();
-    let written = generate::derivation(&rules_of(&rule), 1_024).unwrap();
-    assert_eq!(written.words(), expected.words());
+    assert_eq!(writer::derive(&rules_of(&rule), 168), Some(expected.bytes()));
+    assert_eq!(writer::derive(&rules_of(&rule), 167), None);
+}
+
+/// The writer fills a buffer of the derivation's length, and refuses one that is a byte shorter.
+#[test]
+fn writer_needs_the_length() {
+    let mut random = Random::new(4);
+    for _ in 0..3_000 {
+        let rules = rules_of(&generate::small_rule(&mut random, 7));
+        let written = writer::derive(&rules, 65_536).unwrap();
+        assert_eq!(writer::derive(&rules, written.len() - 1), None);
+        assert_eq!(writer::derive(&rules, written.len()).unwrap(), written);
+    }
 }
 
 /// What the writers write is accepted, and any accepted derivation closes with the value.
@@ -139,18 +152,16 @@ fn writer_gives_the_sample() {
 fn derivations_give_the_value() {
     let mut random = Random::new(3);
     let (mut accepted, mut damaged) = (0, 0);
+    let limits = Limits::for_buffer(65_536);
     for _ in 0..6_000 {
         let rules = rules_of(&generate::small_rule(&mut random, 8));
         let value = enumerate::value(&rules);
         let drafts = [
-            generate::derivation(&rules, 1_024).unwrap(),
-            generate::free_derivation(&mut random, &rules, 1_024).unwrap(),
+            writer::derivation(&rules, limits).unwrap(),
+            generate::free_derivation(&mut random, &rules, limits).unwrap(),
         ];
         for draft in drafts {
             let mut bytes = draft.bytes();
-            if bytes.len() > 65_536 {
-                continue;
-            }
             assert_eq!(derivation::check(&rules, &bytes), Ok(value));
             accepted += 1;
             for _ in 0..4 {

@@ -1,15 +1,16 @@
-//! The proved solver against the peer on derivations.
+//! The proved solver against the peer on derivations, those to be checked and those that it writes.
 
 #![cfg(not(feature = "no-ffi"))]
 
 #[allow(dead_code)]
 mod common;
 
-use common::{random, rounds, Pair, CHECK};
+use common::{random, rounds, Pair, CHECK, DERIVE};
 use peer::answer::{Answer, Solver};
-use peer::generate::{self, DerivationDraft, LineDraft, RuleDraft};
+use peer::generate::{self, RuleDraft};
 use peer::random::Random;
 use peer::rules::{self, Fault, Rules};
+use peer::writer::{self, DerivationDraft, Limits, LineDraft};
 use peer::{to_bytes, to_words};
 
 /// A rule file of at most `most` variables, with its reading.
@@ -28,8 +29,9 @@ fn accepted_and_near() {
         let solver = Solver::new(&rules);
         let rules = rules.as_ref().unwrap();
         pair.lend_rule(&mut random, &rule);
-        let plain = generate::derivation(rules, 1_024).unwrap();
-        let free = generate::free_derivation(&mut random, rules, 1_024).unwrap();
+        let limits = Limits::for_buffer(65_536);
+        let plain = writer::derivation(rules, limits).unwrap();
+        let free = generate::free_derivation(&mut random, rules, limits).unwrap();
         let drafts = if random.once_in(4) { vec![plain, free] } else { vec![free] };
         for draft in drafts {
             let bytes = draft.bytes();
@@ -65,7 +67,8 @@ fn changed_words() {
     let mut files = vec![(rule.bytes(), derivation.words())];
     while files.len() < rounds(40) {
         let (rule, rules) = file(&mut random, 4);
-        let draft = generate::free_derivation(&mut random, &rules.unwrap(), 16);
+        let limits = Limits { bytes: 65_536, lines: 16 };
+        let draft = generate::free_derivation(&mut random, &rules.unwrap(), limits);
         files.extend(draft.map(|draft| (rule, draft.words())));
     }
     let mut others: Vec<u32> = (0..=20).collect();
@@ -94,7 +97,8 @@ fn cut_files() {
     let mut files = vec![(rule.bytes(), derivation.bytes())];
     while files.len() < rounds(60) {
         let (rule, rules) = file(&mut random, 5);
-        let draft = generate::free_derivation(&mut random, &rules.unwrap(), 40);
+        let limits = Limits { bytes: 65_536, lines: 40 };
+        let draft = generate::free_derivation(&mut random, &rules.unwrap(), limits);
         files.extend(draft.map(|draft| (rule, draft.bytes())));
     }
     for (rule, bytes) in &files {
@@ -153,12 +157,10 @@ fn long_derivations() {
         let rule = generate::rule(&mut random, n, m).bytes();
         let rules = rules::read(&rule);
         let solver = Solver::new(&rules);
-        let Some(draft) = generate::derivation(rules.as_ref().unwrap(), 1_024) else {
+        let draft = writer::derivation(rules.as_ref().unwrap(), Limits::for_buffer(65_536));
+        let Some(draft) = draft.filter(|draft| draft.lines.len() >= 150) else {
             continue;
         };
-        if draft.lines.len() < 150 || draft.bytes().len() > 65_536 {
-            continue;
-        }
         made += 1;
         pair.lend_rule(&mut random, &rule);
         let bytes = draft.bytes();
@@ -185,7 +187,7 @@ fn long_derivations() {
     let mut draft = DerivationDraft { lines, closing: 1 };
     assert_eq!(draft.bytes().len(), 65_536);
     let got = pair.check(&mut random, &rule, &solver, &draft.bytes());
-    assert_eq!(got, Answer { code: 0, numbers: vec![1, 1] });
+    assert_eq!(got, Answer::numbers(&[1, 1]));
     let mut words = draft.words();
     words.insert(16_381, 0);
     *words.last_mut().unwrap() += 1;
@@ -194,11 +196,38 @@ fn long_derivations() {
         line.literals.clear();
     }
     let got = pair.check(&mut random, &rule, &solver, &draft.bytes());
-    assert_eq!(got, Answer { code: 0, numbers: vec![1, 1] });
+    assert_eq!(got, Answer::numbers(&[1, 1]));
     draft.lines.push(draft.lines[0].clone());
     let got = pair.check(&mut random, &rule, &solver, &draft.bytes());
     assert_eq!(got, Answer::refused((14, None)));
 
     pair.report("long_derivations");
     pair.reached(CHECK, [0, 13, 14, 15, 16, 17, 18, 19, 20, 21], 1);
+}
+
+/// Derivations about as long as the writer's limits: within both, over 65,536 bytes, over 1,024 lines, over both.
+#[test]
+fn written_derivations() {
+    let (mut random, mut pair) = (random(206), Pair::new());
+    let (mut over, mut made) = ([[0; 2]; 2], 0);
+    while made < rounds(300) {
+        let n = random.within(9, 24);
+        let m = random.within(1, 4 * n);
+        let rule = generate::rule(&mut random, n, m).bytes();
+        let rules = rules::read(&rule);
+        let draft = writer::derivation(rules.as_ref().unwrap(), Limits { bytes: 90_000, lines: 1_500 });
+        let Some(draft) = draft.filter(|draft| draft.lines.len() >= 500) else {
+            continue;
+        };
+        made += 1;
+        let (lines, bytes) = (draft.lines.len() > 1_024, draft.bytes().len() > 65_536);
+        over[usize::from(lines)][usize::from(bytes)] += 1;
+        pair.lend_rule(&mut random, &rule);
+        let answer = pair.derive(&mut random, &rule, &Solver::new(&rules));
+        assert_eq!(answer.code, if lines || bytes { 22 } else { 0 });
+    }
+    pair.report("written_derivations");
+    println!("  over no limit, bytes, lines, both: {:?}", over.as_flattened());
+    pair.reached(DERIVE, [0, 22], 100);
+    assert!(over.as_flattened().iter().all(|count| *count >= 3), "over bytes, over lines: {over:?}");
 }

@@ -1,13 +1,14 @@
-//! The proved solver against the peer on rule files: reading, figure, verdict and cut.
+//! The proved solver against the peer on rule files: reading, figure, verdict, cut and the writer.
 
 #![cfg(not(feature = "no-ffi"))]
 
 #[allow(dead_code)]
 mod common;
 
-use common::{random, rounds, Pair, CUT, FIGURE, READ, VERDICT};
+use common::{random, rounds, Pair, CHECK, CUT, DERIVE, FIGURE, READ, VERDICT};
 use peer::ffi::{plain, Place};
-use peer::generate::{self, DerivationDraft, LineDraft, RuleDraft};
+use peer::generate::{self, RuleDraft};
+use peer::writer::{DerivationDraft, LineDraft};
 use peer::{to_bytes, to_words};
 
 #[test]
@@ -22,6 +23,8 @@ fn valid_files() {
     pair.reached(FIGURE, [0], 35_000);
     pair.reached(VERDICT, [0, 10, 11], 1_000);
     pair.reached(CUT, [0, 12], 10_000);
+    pair.reached(DERIVE, [0, 22], 70_000);
+    pair.reached(CHECK, [0], 35_000);
     assert!(pair.verdicts.iter().all(|count| *count > 1_000), "within, above, below: {:?}", pair.verdicts);
 }
 
@@ -56,6 +59,7 @@ fn long_files() {
     pair.reached(READ, [0, 1, 2, 3, 4, 5, 6, 7, 8], 1);
     pair.named_later(READ, 5..=8, 1);
     pair.reached(FIGURE, [0], 60);
+    pair.reached(DERIVE, [0, 22], 60);
 }
 
 /// Files of 10 to 32 variables whose tree is small enough to walk.
@@ -70,6 +74,7 @@ fn wide_files() {
     }
     pair.report("wide_files");
     pair.reached(FIGURE, [0], 200);
+    pair.reached(DERIVE, [0, 22], 300);
 }
 
 #[test]
@@ -83,7 +88,7 @@ fn damaged_files() {
         pair.rule(&mut random, &bytes);
     }
     pair.report("damaged_files");
-    for operation in [READ, FIGURE, VERDICT, CUT] {
+    for operation in [READ, FIGURE, VERDICT, CUT, DERIVE] {
         pair.reached(operation, 0..=8, 50);
     }
 }
@@ -100,7 +105,7 @@ fn faulty_files() {
         pair.rule(&mut random, &bytes);
     }
     pair.report("faulty_files");
-    for operation in [READ, FIGURE, VERDICT, CUT] {
+    for operation in [READ, FIGURE, VERDICT, CUT, DERIVE] {
         pair.reached(operation, 0..=9, 300);
         pair.named_later(operation, 5..=8, 300);
     }
@@ -189,6 +194,7 @@ fn read_only_pages() {
         library.verdict(0, 1);
         library.cut(2);
         library.check();
+        library.derive(200, Place::AtEnd);
         library.read_only(false);
     }
 }
@@ -204,13 +210,19 @@ fn small_stack() {
     let mut draft = DerivationDraft { lines: vec![line; 1_023], closing: 2_047 };
     draft.lines.push(LineDraft { literals: Vec::new(), value: 1, resolved: None });
     let steps = draft.bytes();
+    // The writer comes to the deepest node of each, and passes its limits in the second.
+    let last = RuleDraft { clauses: vec![vec![62]], prefix: vec![[0, 0]; 32] }.bytes();
+    let mut buffer = [0; 4_096];
     let mut answers = Vec::new();
     let used = peer::guard::on_stack(1 << 20, &mut || {
         answers.push(plain::figure(&deep));
         answers.push(plain::cut(&deep, 32));
         answers.push(plain::check(&rule, &steps));
+        answers.push(plain::derive(&deep, &mut buffer));
+        answers.push(plain::derive(&last, &mut buffer));
     });
     println!("small_stack: {used} bytes of stack used");
     let whole = 3u64.pow(32);
-    assert_eq!(answers, [(0, [1, whole, 0, 0]), (0, [1, 1, 0, 0]), (0, [1, 1, 0, 0])]);
+    let expected = [(0, [1, whole, 0, 0]), (0, [1, 1, 0, 0]), (0, [1, 1, 0, 0]), (0, [3_036, 0, 0, 0]), (22, [0; 4])];
+    assert_eq!(answers, expected);
 }

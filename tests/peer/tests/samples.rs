@@ -20,11 +20,11 @@ fn program() {
     assert!(lines == include_str!("../../../crates/run_samples/stdout"), "stdout is not as made");
 }
 
-/// Every number from 0 to 21 is among the answers.
+/// Every number from 0 to 22 is among the answers.
 #[test]
 fn every_number() {
     let cases = samples::cases();
-    for code in 0..=21 {
+    for code in 0..=22 {
         assert!(cases.iter().any(|case| case.expected.code == code), "no case for {code}");
     }
 }
@@ -34,7 +34,7 @@ fn every_number() {
 #[test]
 fn library() {
     use peer::cases::Operation;
-    use peer::ffi::{Library, Place, BEFORE};
+    use peer::ffi::{buffer_before, Library, Place, BEFORE};
     let mut library = Library::new();
     for case in samples::cases() {
         for place in [Place::AtEnd, Place::AtStart] {
@@ -47,6 +47,11 @@ fn library() {
                 Operation::Check(derivation) => {
                     library.lend_derivation(derivation, place);
                     library.check()
+                }
+                Operation::Derive(capacity) => {
+                    let (got, buffer) = library.derive(*capacity, place);
+                    assert!(buffer == case.expected.buffer(&buffer_before(*capacity)), "{}: another buffer", case.name);
+                    got
                 }
                 Operation::Clauses => continue,
             };

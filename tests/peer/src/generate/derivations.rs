@@ -1,174 +1,86 @@
 //! Derivations, valid and damaged.
 
-use super::{damage_length, harmful, DerivationDraft, LineDraft};
+use super::{damage_length, harmful};
 use crate::random::Random;
 use crate::rules::{set_of, Rules};
-use crate::{level, opposites, to_bytes, to_words, Literals};
+use crate::writer::{DerivationDraft, Limits, LineDraft, Node, Writer};
+use crate::{level, literals_of, opposites, to_bytes, to_words, Literals};
 
-/// Writes lines over an accepted rule file.
-pub struct Writer<'a> {
-    rules: &'a Rules,
-    lines: Vec<(Literals, LineDraft)>,
+/// What a free derivation does otherwise than document 02's walk.
+#[derive(Clone, Copy, Debug, Default)]
+pub struct Freedom {
     /// Lets a line that stands already serve for a node.
     pub reuse: bool,
     /// Leaves literals out of kind 1 lines where the rest is enough.
     pub trim: bool,
-    /// Gives up at this many lines.
-    pub most: usize,
 }
 
-/// The literals of a set, rising.
-pub fn list_of(set: Literals) -> Vec<u32> {
-    (0..64).filter(|literal| set >> literal & 1 == 1).collect()
-}
-
-impl<'a> Writer<'a> {
-    pub fn new(rules: &'a Rules) -> Writer<'a> {
-        Writer { rules, lines: Vec::new(), reuse: false, trim: false, most: 1_024 }
-    }
-
-    fn set(&self, reference: u32) -> Literals {
-        let number = (reference / 2) as usize;
-        if reference.is_multiple_of(2) {
-            self.rules.clauses[number]
-        } else {
-            self.lines[number].0
-        }
-    }
-
-    fn value(&self, reference: u32) -> u128 {
-        if reference.is_multiple_of(2) {
-            0
-        } else {
-            self.lines[(reference / 2) as usize].1.value.into()
-        }
-    }
-
-    fn write(&mut self, set: Literals, value: u128, resolved: Option<[u32; 3]>) -> Option<u32> {
-        if self.lines.len() == self.most {
-            return None;
-        }
-        self.lines.push((set, LineDraft { literals: list_of(set), value: value as u64, resolved }));
-        Some(2 * self.lines.len() as u32 - 1)
-    }
-
-    fn is_blocking(&self, set: Literals) -> bool {
-        self.rules.clauses.iter().all(|clause| clause & opposites(set) != 0)
-    }
-
-    fn write_blocking(&mut self, mut set: Literals) -> Option<u32> {
+impl Freedom {
+    /// The literals of a kind 1 line, as many as are kept.
+    fn kept(self, writer: &Writer, mut set: Literals) -> Literals {
         if self.trim {
-            for literal in list_of(set).into_iter().rev() {
-                if self.is_blocking(set & !(1 << literal)) {
+            for literal in literals_of(set).into_iter().rev() {
+                if writer.is_blocking(set & !(1 << literal)) {
                     set &= !(1 << literal);
                 }
             }
         }
-        self.write(set, self.rules.rest[level(set)], None)
+        set
     }
 
-    /// The reference of the resolvent's line, if the two can be resolved.
-    pub fn write_resolvent(&mut self, on_true: u32, on_false: u32) -> Option<u32> {
-        let (true_side, false_side) = (self.set(on_true), self.set(on_false));
-        let v = level(true_side).checked_sub(1)?;
-        let (positive, negative) = (1 << (2 * v), 1 << (2 * v + 1));
-        if level(false_side) != v + 1 || true_side & negative == 0 || false_side & positive == 0 {
-            return None;
+    /// What stands for the node where these literals are false.
+    fn node(self, writer: &Writer, falsehoods: Literals) -> Node {
+        let plain = writer.node(falsehoods);
+        if let Node::Closed(_) = plain {
+            return plain;
         }
-        let set = true_side & !negative | false_side & !positive;
-        if set & opposites(set) != 0 {
-            return None;
+        let serving = |set: Literals| self.reuse && set & !falsehoods == 0;
+        match (writer.sets().position(serving), plain) {
+            (Some(line), _) => Node::Closed(2 * line as u32 + 1),
+            (None, Node::Blocked(set)) => Node::Blocked(self.kept(writer, set)),
+            _ => plain,
         }
-        let joined = self.rules.prefix[v].join(self.value(on_true), self.value(on_false));
-        let value = joined * self.rules.rest[level(set)] / self.rules.rest[v];
-        self.write(set, value, Some([v as u32, on_true, on_false]))
-    }
-
-    /// Walks the tree under the node where the given literals are false: the reference of a
-    /// clause of which all literals are false there.
-    fn node(&mut self, i: usize, falsehoods: Literals) -> Option<u32> {
-        let clauses = &self.rules.clauses;
-        if let Some(falsified) = clauses.iter().position(|clause| clause & !falsehoods == 0) {
-            return Some(2 * falsified as u32);
-        }
-        if self.reuse {
-            if let Some(line) = self.lines.iter().position(|line| line.0 & !falsehoods == 0) {
-                return Some(2 * line as u32 + 1);
-            }
-        }
-        if self.is_blocking(falsehoods) {
-            return self.write_blocking(falsehoods);
-        }
-        let (positive, negative) = (1 << (2 * i), 1 << (2 * i + 1));
-        let on_true = self.node(i + 1, falsehoods | negative)?;
-        if self.set(on_true) & negative == 0 {
-            return Some(on_true);
-        }
-        let on_false = self.node(i + 1, falsehoods | positive)?;
-        if self.set(on_false) & positive == 0 {
-            return Some(on_false);
-        }
-        self.write_resolvent(on_true, on_false)
-    }
-
-    /// Writes the lines for the whole tree: the closing reference, or none if they are too many.
-    pub fn walk(&mut self) -> Option<u32> {
-        self.node(0, 0)
     }
 
     /// Tries to write up to `count` valid lines that need serve for nothing.
-    pub fn wander(&mut self, random: &mut Random, count: usize) {
+    pub fn wander(self, random: &mut Random, writer: &mut Writer, count: usize) {
+        let m = writer.rules.clauses.len();
         let reference = |random: &mut Random, writer: &Writer| {
-            let m = writer.rules.clauses.len();
-            let at = random.below(m + writer.lines.len());
+            let at = random.below(m + writer.sets().len());
             (if at < m { 2 * at } else { 2 * (at - m) + 1 }) as u32
         };
         for _ in 0..count {
             if random.once_in(3) {
                 let mut set = 0;
-                for v in 0..self.rules.n() {
+                for v in 0..writer.rules.n() {
                     if !random.once_in(6) {
                         set |= 1 << (2 * v + random.below(2));
                     }
                 }
-                if self.is_blocking(set) {
-                    self.write_blocking(set);
+                if writer.is_blocking(set) {
+                    writer.write_blocking(self.kept(writer, set));
                 }
-            } else if self.rules.clauses.len() + self.lines.len() > 0 {
-                let (on_true, on_false) = (reference(random, self), reference(random, self));
-                self.write_resolvent(on_true, on_false);
+            } else if m + writer.sets().len() > 0 {
+                let (on_true, on_false) = (reference(random, writer), reference(random, writer));
+                writer.write_resolvent(on_true, on_false);
             }
         }
     }
-
-    pub fn finish(self, closing: u32) -> DerivationDraft {
-        DerivationDraft { lines: self.lines.into_iter().map(|line| line.1).collect(), closing }
-    }
-}
-
-/// The derivation that the plain walk writes, true side first; none if it is over `most` lines.
-pub fn derivation(rules: &Rules, most: usize) -> Option<DerivationDraft> {
-    let mut writer = Writer::new(rules);
-    writer.most = most;
-    let closing = writer.walk()?;
-    Some(writer.finish(closing))
 }
 
 /// An acceptable derivation with some freedom: literals in any order, lines that serve twice
-/// or not at all. None if it is over `most` lines.
-pub fn free_derivation(random: &mut Random, rules: &Rules, most: usize) -> Option<DerivationDraft> {
-    let mut writer = Writer::new(rules);
-    writer.most = most;
-    writer.reuse = random.once_in(2);
-    writer.trim = random.once_in(2);
+/// or not at all. None if it passes a limit.
+pub fn free_derivation(random: &mut Random, rules: &Rules, limits: Limits) -> Option<DerivationDraft> {
+    let mut writer = Writer::new(rules, limits);
+    let freedom = Freedom { reuse: random.once_in(2), trim: random.once_in(2) };
     if random.once_in(3) {
         let count = random.within(0, 12);
-        writer.wander(random, count);
+        freedom.wander(random, &mut writer, count);
     }
-    let closing = writer.walk()?;
+    let closing = writer.walk_with(&|writer: &Writer, falsehoods| freedom.node(writer, falsehoods))?;
     if random.once_in(3) {
         let count = random.within(0, 12);
-        writer.wander(random, count);
+        freedom.wander(random, &mut writer, count);
     }
     let mut draft = writer.finish(closing);
     if random.once_in(2) {
@@ -204,7 +116,7 @@ fn add_loose_line(random: &mut Random, rules: &Rules, draft: &mut DerivationDraf
         value = value.wrapping_mul(rules.rest[level(set)] / rules.rest[v]);
     }
     let resolved = Some([v as u32, on_true, on_false]);
-    draft.lines.push(LineDraft { literals: list_of(set), value: value as u64, resolved });
+    draft.lines.push(LineDraft { literals: literals_of(set), value: value as u64, resolved });
     Some(())
 }
 
@@ -331,11 +243,8 @@ pub fn faulty_derivation(random: &mut Random, rules: &Rules, draft: &mut Derivat
                 *words.last_mut().unwrap() -= 1;
             }
             _ if count > 0 => {
-                let mut at = 0;
-                for line in &draft.lines[..random.below(count)] {
-                    at += 4 + line.literals.len() + if line.resolved.is_some() { 3 } else { 0 };
-                }
-                at += random.below(2);
+                let before = &draft.lines[..random.below(count)];
+                let at = before.iter().map(LineDraft::word_count).sum::<usize>() + random.below(2);
                 words[at] = random.pick(&[0, 1, 2, 3, n, n + 1, 32, 33, 1 << 31, u32::MAX, u32::MAX - 1]);
             }
             _ => words[trailer] += 1,

@@ -8,6 +8,7 @@ pub use rule_files::*;
 
 use crate::random::Random;
 use crate::to_bytes;
+use crate::writer::{DerivationDraft, LineDraft};
 
 /// A rule file before it is written.
 #[derive(Clone, Debug, Default)]
@@ -32,41 +33,6 @@ impl RuleDraft {
         words.extend(self.prefix.iter().flatten());
         let count = words.len() as u32 + 4;
         words.extend([self.clauses.len() as u32, self.prefix.len() as u32, start, count]);
-        words
-    }
-
-    pub fn bytes(&self) -> Vec<u8> {
-        to_bytes(&self.words())
-    }
-}
-
-/// A derivation line before it is written.
-#[derive(Clone, Debug)]
-pub struct LineDraft {
-    pub literals: Vec<u32>,
-    pub value: u64,
-    /// Variable, true-side parent and false-side parent of a kind 2 line.
-    pub resolved: Option<[u32; 3]>,
-}
-
-/// A derivation before it is written.
-#[derive(Clone, Debug)]
-pub struct DerivationDraft {
-    pub lines: Vec<LineDraft>,
-    pub closing: u32,
-}
-
-impl DerivationDraft {
-    pub fn words(&self) -> Vec<u32> {
-        let mut words = Vec::new();
-        for line in &self.lines {
-            words.extend([if line.resolved.is_some() { 2 } else { 1 }, line.literals.len() as u32]);
-            words.extend(&line.literals);
-            words.extend([line.value as u32, (line.value >> 32) as u32]);
-            words.extend(line.resolved.into_iter().flatten());
-        }
-        let count = words.len() as u32 + 3;
-        words.extend([self.lines.len() as u32, self.closing, count]);
         words
     }
 

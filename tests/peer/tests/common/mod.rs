@@ -1,7 +1,7 @@
 //! Compares the proved solver with the peer, call by call, and counts what was answered.
 
 use peer::answer::{Answer, Solver};
-use peer::ffi::{Library, Place, Returned, BEFORE};
+use peer::ffi::{buffer_before, Library, Place, Returned, BEFORE, LONGEST};
 use peer::random::Random;
 use peer::rules;
 
@@ -10,7 +10,8 @@ pub const FIGURE: usize = 1;
 pub const VERDICT: usize = 2;
 pub const CUT: usize = 3;
 pub const CHECK: usize = 4;
-const NAMES: [&str; 5] = ["read", "figure", "verdict", "cut", "check"];
+pub const DERIVE: usize = 5;
+const NAMES: [&str; 6] = ["read", "figure", "verdict", "cut", "check", "derive"];
 
 /// Files whose tree has more nodes times clauses than this are read but not solved.
 const MOST_STEPS: u128 = 2_000_000;
@@ -18,11 +19,11 @@ const MOST_STEPS: u128 = 2_000_000;
 pub struct Pair {
     pub library: Library,
     /// How often each operation returned each number.
-    pub counts: [[u64; 22]; 5],
+    pub counts: [[u64; 23]; 6],
     /// How often a verdict was within, above and below.
     pub verdicts: [u64; 3],
     /// How often each operation's refusals named a clause, variable or line after the first.
-    pub later: [[u64; 22]; 5],
+    pub later: [[u64; 23]; 6],
 }
 
 /// The number of rounds, times the variable PEER_ROUNDS if it is set.
@@ -46,7 +47,7 @@ fn place(random: &mut Random) -> Place {
 
 impl Pair {
     pub fn new() -> Pair {
-        Pair { library: Library::new(), counts: [[0; 22]; 5], verdicts: [0; 3], later: [[0; 22]; 5] }
+        Pair { library: Library::new(), counts: [[0; 23]; 6], verdicts: [0; 3], later: [[0; 23]; 6] }
     }
 
     /// Fails unless the call returned the peer's answer.
@@ -71,6 +72,7 @@ impl Pair {
         let solver = Solver::new(&rules);
         let got = self.library.read();
         self.same(READ, &solver.read(), got, input);
+        self.derive(random, bytes, &solver);
         let (n, m, whole) = match &rules {
             Ok(rules) => (rules.n() as u64, rules.clauses.len(), rules.whole() as u64),
             Err(_) => (random.below(34) as u64, 0, 1 << random.below(63)),
@@ -127,6 +129,40 @@ impl Pair {
         let got = self.library.check();
         self.same(CHECK, &expected, got, || format!("rule file {}\nderivation {}", to_hex(rule), to_hex(derivation)));
         expected
+    }
+
+    /// Compares the writer on the rule file that is lent, with a buffer of `capacity` bytes.
+    fn derive_to(&mut self, random: &mut Random, rule: &[u8], solver: &Solver, capacity: usize) {
+        let input = || format!("buffer of {capacity} bytes, rule file {}", to_hex(rule));
+        let expected = solver.derive(capacity);
+        let (got, buffer) = self.library.derive(capacity, place(random));
+        self.same(DERIVE, &expected, got, input);
+        assert!(
+            buffer == expected.buffer(&buffer_before(capacity)),
+            "derive: another buffer than the peer's\n{}",
+            input()
+        );
+    }
+
+    /// Compares the writer on the rule file that is lent, with buffers of the derivation's length and of others. What
+    /// is written must be accepted with the figure, by both checkers.
+    pub fn derive(&mut self, random: &mut Random, rule: &[u8], solver: &Solver) -> Answer {
+        let longest = solver.derive(LONGEST);
+        let length = longest.written.len();
+        let capacities = match longest.code {
+            0 => vec![length, length - 1, random.below(length), length + random.within(1, 9)],
+            22 => vec![65_536, LONGEST, random.below(LONGEST)],
+            _ => vec![random.below(200)],
+        };
+        let rarely = random.pick(&[65_536, 65_537, LONGEST]);
+        for capacity in capacities.into_iter().chain([0]).chain(random.once_in(20).then_some(rarely)) {
+            self.derive_to(random, rule, solver, capacity);
+        }
+        if longest.code == 0 {
+            let got = self.check(random, rule, solver, &longest.written);
+            assert_eq!(got, solver.figure(), "a written derivation is accepted with the figure: {}", to_hex(rule));
+        }
+        longest
     }
 
     /// Fails unless the operation returned each of these numbers at least `least` times.

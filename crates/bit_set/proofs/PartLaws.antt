@@ -1,0 +1,125 @@
+-- Parts of a set made of bits: a union; a number past the set, and its highest one; the numbers under k; the two lowest
+-- digits with what follows them; and a set that has none but some of the k lowest. Assumes nothing.
+use mathlib.Core.Path.{_≡_, sym, ap, ap₂, _∙_}
+use mathlib.Core.Logic.{_↔_}
+use mathlib.Core.Bool.{true, false, not, _||_, false≢true}
+use Prim.Native.Nat.{ℕ, suc, _+_, _-_, _*_, _/_, _%_, _^_, _≤_, _<_}
+use native.Mathlib.Nat.{one-mul, pow-suc, mod-lt, zero-mod, mod-eq-of-lt, div-add-mod', div-eq-of-lt, div-lt-iff-lt-mul, pow-le-pow-right}
+use native.Mathlib.Decide.{ℕ-discrete, decLt}
+use native.Mathlib.Omega.{arith}
+use lib.Pow.{pow-pos, pow-lt, pow-add, split, high-ones}
+use lib.Bits.{bitAnd, bitOr, and-zero-r, and-comm, and-shifted, and-mask, and-le-r, and-block}
+use lib.Dec.{eqb}
+use borrow.Author.Tests.{ne-eqb}
+use Rattle.bit_set.specs.BitSet.{has}
+use Rattle.bit_set.proofs.BitLaws.{and-or}
+use Rattle.bit_set.proofs.BitSetLaws.{union-empty}
+
+pub has-union : (a b x : ℕ) → has (bitOr a b) x ≡ has a x || has b x
+unfolding has
+has-union a b x = rw (and-or a b (2 ^ x)) (union-empty (bitAnd a (2 ^ x)) (bitAnd b (2 ^ x)))
+
+-- a set under 2^x does not have x
+pub has-over : (s x : ℕ) → s < 2 ^ x → has s x ≡ false
+unfolding has
+has-over s x h = rw (and-comm s (2 ^ x) ∙ ap (λ n. bitAnd n s) (sym (one-mul (2 ^ x))) ∙ and-shifted 1 x s h)
+
+-- so a set has no number past its digits
+pub has-within : (s m x : ℕ) → s < 2 ^ m → has s x ≡ true → x < m
+has-within s m x h t = go (decLt x m)
+  where
+    go : Dec (x < m) → x < m
+    go (yes k) = k
+    go (no k) =
+        absurd (false≢true (sym (has-over s x (omega (arith, pow-le-pow-right {n = 2} (omega arith) {i = m} {j = x} (omega arith)))) ∙ t))
+
+-- the highest number of a set
+pub has-highest : (s x : ℕ) → 2 ^ x ≤ s → s < 2 ^ suc x → has s x ≡ true
+unfolding has
+has-highest s x h k =
+    let e : s ≡ 1 * 2 ^ x + (s - 2 ^ x) = omega arith in
+    let f : 2 ^ x ≡ 1 * 2 ^ x + 0 = omega arith in
+    let g : bitAnd s (2 ^ x) ≡ 2 ^ x = ap₂ bitAnd e f ∙ and-block x 1 1 (s - 2 ^ x) 0 (omega (arith, pow-suc 2 x)) (pow-pos x) ∙ rw and-zero-r (omega arith) in
+    rw (g, ne-eqb (2 ^ x) 0 (λ z. omega (arith, pow-pos x)))
+
+-- the part of a set under 2^k
+module _ (a n k : ℕ) (e : n + 1 ≡ 2 ^ k) where
+  pub has-part : (x : ℕ) → x < k → has (bitAnd a n) x ≡ has a x
+  unfolding has
+  has-part x h =
+      let low : n ≡ 2 ^ k - 1 = omega arith in
+      let f : a ≡ a / 2 ^ k * 2 ^ k + a % 2 ^ k = sym (div-add-mod' a (2 ^ k)) in
+      let z : 2 ^ x ≡ 0 * 2 ^ k + 2 ^ x = omega arith in
+      let g : bitAnd a (2 ^ x) ≡ bitAnd (a % 2 ^ k) (2 ^ x) =
+      ap₂ bitAnd f z ∙ and-block k (a / 2 ^ k) 0 (a % 2 ^ k) (2 ^ x) (mod-lt a (pow-pos k)) (pow-lt h) ∙ rw and-zero-r (omega arith) in
+      rw (low, and-mask, g)
+
+  pub has-past : (x : ℕ) → k ≤ x → has (bitAnd a n) x ≡ false
+  has-past x h = has-over (bitAnd a n) x (omega (arith, and-le-r a n, pow-le-pow-right {n = 2} (omega arith) h))
+
+-- the two digits d, and then the set m
+module _ (d m : ℕ) (h : d < 4) where
+  -- and a number under 4, or a multiple of 4, that is met there
+  low-part : (x : ℕ) → x < 4 → bitAnd (d + 4 * m) x ≡ bitAnd d x
+  low-part x k =
+      let f : d + 4 * m ≡ m * 4 + d = omega arith in
+      let e : x ≡ 0 * 4 + x = omega arith in
+      ap₂ bitAnd f e ∙ and-block 2 m 0 d x h k ∙ rw and-zero-r (omega arith)
+
+  high-part : (x : ℕ) → bitAnd (d + 4 * m) (x * 4) ≡ bitAnd m x * 4
+  high-part x =
+      let f : d + 4 * m ≡ m * 4 + d = omega arith in
+      let e : x * 4 ≡ x * 4 + 0 = omega arith in
+      ap₂ bitAnd f e ∙ and-block 2 m x d 0 h (omega arith) ∙ rw and-zero-r (omega arith)
+
+  pub has-lowest : (x : ℕ) → x < 2 → has (d + 4 * m) x ≡ has d x
+  unfolding has
+  has-lowest x k = rw (low-part (2 ^ x) (pow-lt k))
+
+  pub has-later : (x : ℕ) → has (d + 4 * m) (suc (suc x)) ≡ has m x
+  unfolding has
+  has-later x =
+      let e : 2 ^ suc (suc x) ≡ 2 ^ x * 4 = omega (arith, pow-suc 2 (suc x), pow-suc 2 x) in
+      rw (e, high-part (2 ^ x)) (go (ℕ-discrete (bitAnd m (2 ^ x)) 0))
+    where
+      go : {y : ℕ} → Dec (y ≡ 0) → not (eqb (y * 4) 0) ≡ not (eqb y 0)
+      go (yes e) = rw e
+      go {y} (no n) = rw (ne-eqb y 0 n, ne-eqb (y * 4) 0 (λ z. n (omega arith)))
+
+-- s is a set of some of the k lowest numbers, all of which `a` has: a set of n digits has nothing but the others of the
+-- k lowest exactly where it has none of s and is not over `a`
+module _ (n k s a : ℕ) (fits : k ≤ n) (h : s < 2 ^ k) (e : a + 1 ≡ 2 ^ k) where
+  -- s, and all from k on
+  rest-is : 2 ^ n - 1 - (a - s) ≡ (2 ^ (n - k) - 1) * 2 ^ k + s
+  rest-is =
+      let j : n ≡ n - k + k = omega arith in
+      let f : 2 ^ n - 2 ^ k ≡ (2 ^ (n - k) - 1) * 2 ^ k = ap (λ i. 2 ^ i - 2 ^ k) j ∙ high-ones (n - k) k in
+      omega (arith, f, pow-le-pow-right {n = 2} (omega arith) fits)
+
+  and-rest : (m : ℕ) → bitAnd m (2 ^ n - 1 - (a - s)) ≡ m / 2 ^ k % 2 ^ (n - k) * 2 ^ k + bitAnd (m % 2 ^ k) s
+  and-rest m =
+      ap₂ bitAnd (sym (split m k)) rest-is ∙ and-block k (m / 2 ^ k) (2 ^ (n - k) - 1) (m % 2 ^ k) s (mod-lt m (pow-pos k)) h
+      ∙ ap (λ x. x * 2 ^ k + bitAnd (m % 2 ^ k) s) (and-mask (m / 2 ^ k) (n - k))
+
+  and-low : (m : ℕ) → bitAnd m s ≡ bitAnd (m % 2 ^ k) s
+  and-low m =
+      let z : s ≡ 0 * 2 ^ k + s = omega arith in
+      ap₂ bitAnd (sym (split m k)) z ∙ and-block k (m / 2 ^ k) 0 (m % 2 ^ k) s (mod-lt m (pow-pos k)) h ∙ rw and-zero-r (omega arith)
+
+  pub none-of-rest : (m : ℕ) → bitAnd m (2 ^ n - 1 - (a - s)) ≡ 0 → bitAnd m s ≡ 0
+  none-of-rest m z = and-low m ∙ omega (arith, and-rest m)
+
+  pub rest-iff : (m : ℕ) → m < 2 ^ n → (bitAnd m (2 ^ n - 1 - (a - s)) ≡ 0) ↔ ((bitAnd m s ≡ 0) × (m ≤ a))
+  rest-iff m m<n = (λ z. (none-of-rest m z, under z), λ g. and-rest m ∙ none g)
+    where
+      under : bitAnd m (2 ^ n - 1 - (a - s)) ≡ 0 → m ≤ a
+      under z =
+          let j : n - k + k ≡ n = omega arith in
+          let few : m / 2 ^ k < 2 ^ (n - k) = div-lt-iff-lt-mul (pow-pos k) .1 (rw (← pow-add 2 (n - k) k, j) m<n) in
+          let zero : m / 2 ^ k * 2 ^ k ≡ 0 = omega (arith, ap (_* 2 ^ k) (mod-eq-of-lt few), and-rest m) in
+          omega (arith, split m k, mod-lt m (pow-pos k))
+
+      none : (bitAnd m s ≡ 0) × (m ≤ a) → m / 2 ^ k % 2 ^ (n - k) * 2 ^ k + bitAnd (m % 2 ^ k) s ≡ 0
+      none (z, le) =
+          let zero : m / 2 ^ k ≡ 0 = div-eq-of-lt (omega arith) in
+          rw (zero, ← and-low m, z, zero-mod) (omega arith)

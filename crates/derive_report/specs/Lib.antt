@@ -1,0 +1,2 @@
+-- What the program ssat_derive prints for a rule file.
+pub mod DeriveReport

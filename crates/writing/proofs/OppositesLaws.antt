@@ -1,0 +1,147 @@
+-- The opposites of a path. First for values of any size: where each stands, one more value, one variable later. Then
+-- for values 0 and 1: they are the literals that the path falsifies, one of each variable, rising; and their level.
+-- Assumes nothing.
+use Prim.Native.Nat.{ℕ, zero, suc, _+_, _*_, _%_, _≤_, _<_}
+use native.Mathlib.Nat.{le-antisymm}
+use native.Mathlib.Decide.{ℕ-discrete}
+use native.Mathlib.Omega.{arith}
+use mathlib.Core.Path.{_≡_, refl, sym, ap, ap₂, _∙_}
+use mathlib.Core.Logic.{_↔_, ⊎-elim}
+use mathlib.Core.Bool.{Bool, true, false}
+use mathlib.Core.List.{List, [], _∷_, _++_, map, List·Memᴰ·head, List·Memᴰ·tail, List·Memᴰ·not-nil, List·Memᴰ·cases-cons, Memᴰ·cast}
+use lib.ListN.{length, getD, take}
+use lib.Seq.{take-suc, take-length, length-take-le}
+use Rattle.formula.specs.Formula.{variable, opposite, member, repeats}
+use Rattle.formula.specs.Nodes.{TrueLiteral, FalseLiteral, Every}
+use Rattle.resolution.specs.Resolution.{_∈_, level}
+use Rattle.resolution.proofs.Membership.{member-iff, not-member-iff, getD-in}
+use Rattle.resolution.proofs.Levels.{opposite-is, level-above, level-least}
+use Rattle.writing.specs.Writing.{below, rising, opposites-from, opposites}
+use Rattle.writing.proofs.RisingLaws.{below-passes, below-fails, below-none-between, OneOfEach, below-no-repeats}
+
+-- For values of any size
+
+-- the literal at place i is that of variable v + i
+opposite-found : (v : ℕ) (p : List ℕ) (l : ℕ) → l ∈ opposites-from v p → (i : ℕ) × (i < length p) × (l ≡ 2 * (v + i) + getD p i 0)
+unfolding opposites-from
+opposite-found v [] l m = absurd (List·Memᴰ·not-nil m)
+opposite-found v (x ∷ p) l m =
+    ⊎-elim
+    (λ e. (0, omega arith, omega arith))
+    (λ n. let (i, h, e) = opposite-found (suc v) p l n in (suc i, omega arith, omega arith))
+    (List·Memᴰ·cases-cons m)
+
+opposite-stands : (v : ℕ) (p : List ℕ) (i : ℕ) → i < length p → 2 * (v + i) + getD p i 0 ∈ opposites-from v p
+unfolding opposites-from
+opposite-stands v [] i h = absurd (omega arith)
+opposite-stands v (x ∷ p) zero h = let e : 2 * (v + 0) + x ≡ 2 * v + x = omega arith in List·Memᴰ·head e
+opposite-stands v (x ∷ p) (suc i) h = List·Memᴰ·tail (Memᴰ·cast (omega arith) (opposite-stands (suc v) p i (omega arith)))
+
+from-append : (v : ℕ) (p : List ℕ) (x : ℕ) → opposites-from v (p ++ (x ∷ [])) ≡ opposites-from v p ++ ((2 * (v + length p) + x) ∷ [])
+unfolding opposites-from
+from-append v [] x = let e : v ≡ v + 0 = omega arith in ap (λ w. (2 * w + x) ∷ []) e
+from-append v (y ∷ p) x =
+    let e : suc v + length p ≡ v + suc (length p) = omega arith in
+    ap ((2 * v + y) ∷_) (from-append (suc v) p x ∙ ap (λ w. opposites-from (suc v) p ++ ((2 * w + x) ∷ [])) e)
+
+-- one more value adds its opposite at the end
+pub opposites-append : (p : List ℕ) (x : ℕ) → opposites (p ++ (x ∷ [])) ≡ opposites p ++ ((2 * length p + x) ∷ [])
+opposites-append p x = let e : 0 + length p ≡ length p = omega arith in rw e at (from-append 0 p x)
+
+-- the opposites from the next variable on
+pub opposites-later : (v : ℕ) (p : List ℕ) → opposites-from (suc v) p ≡ map (λ x. suc (suc x)) (opposites-from v p)
+unfolding opposites-from
+opposites-later v [] = refl
+opposites-later v (x ∷ p) = ap₂ _∷_ (omega arith) (opposites-later (suc v) p)
+
+-- For values 0 and 1
+
+-- every literal of c is among the opposites of p
+abbrev pub Falsifies : List ℕ → List ℕ → Type 0
+Falsifies p c = (l : ℕ) → l ∈ c → l ∈ opposites p
+
+module _ (p : List ℕ) (values : Every (λ x. x < 2) p) where
+  -- the opposites are the literals that the path falsifies
+  pub opposites-iff : (l : ℕ) → (l ∈ opposites p) ↔ FalseLiteral p l
+  opposites-iff l = (
+    λ m.
+        let (i, h, e) = opposite-found 0 p l m in
+        let small : getD p i 0 < 2 = values (getD p i 0) (getD-in p i 0 h) in
+        let same : variable l ≡ i = omega arith in
+        (omega arith, ap (λ j. getD p j 0) same ∙ omega arith),
+    λ h. Memᴰ·cast (omega arith) (opposite-stands 0 p (variable l) (h .0)),
+  )
+
+  -- the opposite of a literal that it satisfies is one of them
+  pub true-opposed : (l : ℕ) → TrueLiteral p l → opposite l ∈ opposites p
+  true-opposed l (set, is) =
+      let (same, other) = opposite-is l in
+      let small : getD p (variable l) 0 < 2 = values (getD p (variable l) 0) (getD-in p (variable l) 0 set) in
+      opposites-iff (opposite l) .1 (rw same (set, omega arith))
+
+  -- it falsifies at most one literal of each variable
+  one-false : (l k : ℕ) → FalseLiteral p l → FalseLiteral p k → variable l ≡ variable k → l ≡ k
+  one-false l k (set, is) (set′, is′) e = let same : l % 2 ≡ k % 2 = sym is ∙ ap (λ v. getD p v 0) e ∙ is′ in omega arith
+
+  -- so a clause that it falsifies has at most one
+  pub falsified-one-of-each : (c : List ℕ) → Falsifies p c → OneOfEach (λ l. member l c)
+  falsified-one-of-each c falsified l k t u =
+      one-false l k (opposites-iff l .0 (falsified l (member-iff l c .0 t))) (opposites-iff k .0 (falsified k (member-iff k c .0 u)))
+
+  -- the two literals of a variable of the path: one of them is among the opposites
+  abbrev among : ℕ → Bool
+  among l = member l (opposites p)
+
+  among-true : (l : ℕ) → FalseLiteral p l → among l ≡ true
+  among-true l h = member-iff l (opposites p) .1 (opposites-iff l .1 h)
+
+  among-false : (l : ℕ) → ¬ FalseLiteral p l → among l ≡ false
+  among-false l n = not-member-iff l (opposites p) .1 (λ m. n (opposites-iff l .0 m))
+
+  two-more : (k : ℕ) → k < length p → below (2 * suc k) among ≡ below (2 * k) among ++ ((2 * k + getD p k 0) ∷ [])
+  two-more k h = let e : 2 * suc k ≡ suc (suc (2 * k)) = omega arith in rw e (go (ℕ-discrete (getD p k 0) 0))
+    where
+      literal : (l : ℕ) → variable l ≡ k → getD p k 0 ≡ l % 2 → FalseLiteral p l
+      literal l e is = (omega arith, ap (λ v. getD p v 0) e ∙ is)
+
+      other : (l : ℕ) → variable l ≡ k → ¬ (getD p k 0 ≡ l % 2) → ¬ FalseLiteral p l
+      other l e n f = n (ap (λ v. getD p v 0) (sym e) ∙ f .1)
+
+      go : Dec (getD p k 0 ≡ 0) → below (suc (suc (2 * k))) among ≡ below (2 * k) among ++ ((2 * k + getD p k 0) ∷ [])
+      go (yes e) =
+          below-fails among (suc (2 * k)) (among-false (suc (2 * k)) (other (suc (2 * k)) (omega arith) (λ i. omega arith)))
+          ∙ below-passes among (2 * k) (among-true (2 * k) (literal (2 * k) (omega arith) (omega arith)))
+          ∙ ap (λ l. below (2 * k) among ++ (l ∷ [])) (omega arith)
+      go (no n) =
+          let one : getD p k 0 ≡ 1 = omega (arith, values (getD p k 0) (getD-in p k 0 h)) in
+          below-passes among (suc (2 * k)) (among-true (suc (2 * k)) (literal (suc (2 * k)) (omega arith) (omega arith)))
+          ∙ ap (_++ (suc (2 * k) ∷ [])) (below-fails among (2 * k) (among-false (2 * k) (other (2 * k) (omega arith) (λ i. omega arith))))
+          ∙ ap (λ l. below (2 * k) among ++ (l ∷ [])) (omega arith)
+
+  first-opposites : (k : ℕ) → k ≤ length p → opposites (take k p) ≡ below (2 * k) among
+  unfolding below opposites-from
+  first-opposites zero h = refl
+  first-opposites (suc k) h =
+      ap opposites (take-suc p k 0 (omega arith)) ∙ opposites-append (take k p) (getD p k 0)
+      ∙ rw (length-take-le k p (omega arith), first-opposites k (omega arith)) (sym (two-more k (omega arith)))
+
+  -- they rise
+  pub opposites-rise : (n : ℕ) → length p ≤ n → opposites p ≡ rising n (opposites p)
+  unfolding rising
+  opposites-rise n h =
+      sym (ap opposites (take-length p)) ∙ first-opposites (length p) (omega arith)
+      ∙ sym (below-none-between among (2 * length p) (2 * n) (omega arith) (λ l a b. among-false l (λ f. omega arith)))
+
+  pub opposites-no-repeats : repeats (opposites p) ≡ false
+  unfolding rising
+  opposites-no-repeats =
+      ap repeats (opposites-rise (length p) (omega arith)) ∙ below-no-repeats among (falsified-one-of-each (opposites p) (λ l m. m)) (2 * length p)
+
+  pub opposites-level : level (opposites p) ≡ length p
+  opposites-level = le-antisymm (level-least (length p) (opposites p) (λ l m. opposites-iff l .0 m .0)) (go (length p) refl)
+    where
+      go : (n : ℕ) → length p ≡ n → n ≤ level (opposites p)
+      go zero e = omega arith
+      go (suc k) e =
+          let small : getD p k 0 < 2 = values (getD p k 0) (getD-in p k 0 (omega arith)) in
+          omega (arith, level-above (opposite-stands 0 p k (omega arith)))
