@@ -290,12 +290,47 @@ mod bench {
         (rule, writer.finish(closing))
     }
 
+    /// 1,000 times the same line of kind 1, of ten literals, over 1,000 clauses; ten more close. Ten
+    /// clauses are the opposites of these literals, and each other one has one of them.
+    fn blocked() -> (RuleDraft, DerivationDraft) {
+        let mut random = Random::new(7_000);
+        let n = 20;
+        let mut clauses: Vec<Vec<u32>> = (0..10).map(|v| vec![2 * v + 1]).collect();
+        clauses.extend((0..990).map(|_| {
+            let mut clause = vec![2 * random.within(0, 9) as u32 + 1];
+            clause.extend(generate::clause(&mut random, 10, 2).iter().map(|l| l + 20));
+            clause
+        }));
+        let rule = RuleDraft {
+            clauses,
+            prefix: vec![[1, 1]; n],
+        };
+        let rules = rules_of(&rule.bytes());
+        let mut writer = Writer::new(&rules, Limits::for_buffer(65_536));
+        let line = (0..10).map(|v| 1 << (2 * v)).sum();
+        let mut closing = 0;
+        for _ in 0..1_000 {
+            closing = writer.write_blocking(line).expect("room for the line");
+        }
+        for v in (0..10).rev() {
+            closing = writer
+                .write_resolvent(2 * v, closing)
+                .expect("room for the resolvent");
+        }
+        (rule, writer.finish(closing))
+    }
+
     fn derivations() {
         println!(
             "| derivation | n | m | lines | bytes | proved, ms | ns a line | peer, ms | proved / peer | stack, bytes |"
         );
         println!("|---|--:|--:|--:|--:|--:|--:|--:|--:|--:|");
-        for (name, (rule, draft)) in [("plain walk", walked()), ("random resolvents", wandered())] {
+        for (name, (rule, draft)) in [
+            ("plain walk", walked()),
+            ("random resolvents", wandered()),
+            ("kind 1 lines", blocked()),
+            ("the sample", generate::sample()),
+        ] {
             let (file, steps) = (rule.bytes(), draft.bytes());
             let mut got = (0, [0; 4]);
             let (proved, stack) =

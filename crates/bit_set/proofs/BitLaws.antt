@@ -11,7 +11,7 @@ use lib.Dec.{leb}
 use borrow.Author.Tests.{leb-true, leb-false, le-leb, lt-leb}
 
 -- the two operations digit by digit
-and-odd : (a b : ℕ) → bitAnd a b % 2 ≡ min (a % 2) (b % 2)
+pub and-odd : (a b : ℕ) → bitAnd a b % 2 ≡ min (a % 2) (b % 2)
 and-odd a b = ap (_% 2) (and-step a b) ∙ digits-mod (bitAnd (a / 2) (b / 2)) (omega arith)
 
 or-odd : (a b : ℕ) → bitOr a b % 2 ≡ max (a % 2) (b % 2)

@@ -1,16 +1,15 @@
--- Parts of a set made of bits: a union; a number past the set, and its highest one; the numbers under k; the two lowest
--- digits with what follows them; and a set that has none but some of the k lowest. Assumes nothing.
+-- Parts of a set made of bits: a union; a number past the set, and its highest one; the numbers under k, and those from
+-- k on; and the two lowest digits with what follows them. Assumes nothing.
 use mathlib.Core.Path.{_≡_, sym, ap, ap₂, _∙_}
-use mathlib.Core.Logic.{_↔_}
 use mathlib.Core.Bool.{true, false, not, _||_, false≢true}
 use Prim.Native.Nat.{ℕ, suc, _+_, _-_, _*_, _/_, _%_, _^_, _≤_, _<_}
-use native.Mathlib.Nat.{one-mul, pow-suc, mod-lt, zero-mod, mod-eq-of-lt, div-add-mod', div-eq-of-lt, div-lt-iff-lt-mul, pow-le-pow-right}
+use native.Mathlib.Nat.{one-mul, zero-mul, pow-suc, mod-lt, zero-mod, mod-eq-of-lt, div-add-mod', div-eq-of-lt, pow-le-pow-right}
 use native.Mathlib.Decide.{ℕ-discrete, decLt}
 use native.Mathlib.Omega.{arith}
-use lib.Pow.{pow-pos, pow-lt, pow-add, split, high-ones}
-use lib.Bits.{bitAnd, bitOr, and-zero-r, and-comm, and-shifted, and-mask, and-le-r, and-block}
-use lib.Dec.{eqb}
-use borrow.Author.Tests.{ne-eqb}
+use lib.Pow.{pow-pos, pow-lt, pow-add, shl-shr}
+use lib.Bits.{bitAnd, bitOr, and-zero-r, and-comm, and-shifted, and-mask, and-le-r, and-block, and-high}
+use lib.Dec.{leb, eqb}
+use borrow.Author.Tests.{ne-eqb, le-leb, lt-leb}
 use Rattle.bit_set.specs.BitSet.{has}
 use Rattle.bit_set.proofs.BitLaws.{and-or}
 use Rattle.bit_set.proofs.BitSetLaws.{union-empty}
@@ -57,6 +56,19 @@ module _ (a n k : ℕ) (e : n + 1 ≡ 2 ^ k) where
   pub has-past : (x : ℕ) → k ≤ x → has (bitAnd a n) x ≡ false
   has-past x h = has-over (bitAnd a n) x (omega (arith, and-le-r a n, pow-le-pow-right {n = 2} (omega arith) h))
 
+-- of the j + k lowest numbers those from k on
+pub has-from : (j k x : ℕ) → x < j + k → has (2 ^ (j + k) - 2 ^ k) x ≡ leb k x
+unfolding has
+has-from j k x h = rw (and-comm (2 ^ (j + k) - 2 ^ k) (2 ^ x), and-high (2 ^ x) j k) (go (decLt x k))
+  where
+    go : Dec (x < k) → not (eqb (2 ^ x / 2 ^ k % 2 ^ j * 2 ^ k) 0) ≡ leb k x
+    go (yes l) = rw (div-eq-of-lt (pow-lt l), zero-mod, zero-mul, lt-leb k x l)
+    go (no l) =
+        let e : x ≡ x - k + k = omega arith in
+        let f : 2 ^ x / 2 ^ k ≡ 2 ^ (x - k) = ap (λ n. 2 ^ n / 2 ^ k) e ∙ rw (pow-add 2 (x - k) k) (shl-shr (2 ^ (x - k)) k) in
+        let g : 2 ^ (x - k) * 2 ^ k ≡ 2 ^ x = sym (pow-add 2 (x - k) k) ∙ ap (2 ^_) (sym e) in
+        rw (f, mod-eq-of-lt (pow-lt {i = x - k} {j = j} (omega arith)), g, ne-eqb (2 ^ x) 0 (λ z. omega (arith, pow-pos x)), le-leb k x (omega arith))
+
 -- the two digits d, and then the set m
 module _ (d m : ℕ) (h : d < 4) where
   -- and a number under 4, or a multiple of 4, that is met there
@@ -85,41 +97,3 @@ module _ (d m : ℕ) (h : d < 4) where
       go : {y : ℕ} → Dec (y ≡ 0) → not (eqb (y * 4) 0) ≡ not (eqb y 0)
       go (yes e) = rw e
       go {y} (no n) = rw (ne-eqb y 0 n, ne-eqb (y * 4) 0 (λ z. n (omega arith)))
-
--- s is a set of some of the k lowest numbers, all of which `a` has: a set of n digits has nothing but the others of the
--- k lowest exactly where it has none of s and is not over `a`
-module _ (n k s a : ℕ) (fits : k ≤ n) (h : s < 2 ^ k) (e : a + 1 ≡ 2 ^ k) where
-  -- s, and all from k on
-  rest-is : 2 ^ n - 1 - (a - s) ≡ (2 ^ (n - k) - 1) * 2 ^ k + s
-  rest-is =
-      let j : n ≡ n - k + k = omega arith in
-      let f : 2 ^ n - 2 ^ k ≡ (2 ^ (n - k) - 1) * 2 ^ k = ap (λ i. 2 ^ i - 2 ^ k) j ∙ high-ones (n - k) k in
-      omega (arith, f, pow-le-pow-right {n = 2} (omega arith) fits)
-
-  and-rest : (m : ℕ) → bitAnd m (2 ^ n - 1 - (a - s)) ≡ m / 2 ^ k % 2 ^ (n - k) * 2 ^ k + bitAnd (m % 2 ^ k) s
-  and-rest m =
-      ap₂ bitAnd (sym (split m k)) rest-is ∙ and-block k (m / 2 ^ k) (2 ^ (n - k) - 1) (m % 2 ^ k) s (mod-lt m (pow-pos k)) h
-      ∙ ap (λ x. x * 2 ^ k + bitAnd (m % 2 ^ k) s) (and-mask (m / 2 ^ k) (n - k))
-
-  and-low : (m : ℕ) → bitAnd m s ≡ bitAnd (m % 2 ^ k) s
-  and-low m =
-      let z : s ≡ 0 * 2 ^ k + s = omega arith in
-      ap₂ bitAnd (sym (split m k)) z ∙ and-block k (m / 2 ^ k) 0 (m % 2 ^ k) s (mod-lt m (pow-pos k)) h ∙ rw and-zero-r (omega arith)
-
-  pub none-of-rest : (m : ℕ) → bitAnd m (2 ^ n - 1 - (a - s)) ≡ 0 → bitAnd m s ≡ 0
-  none-of-rest m z = and-low m ∙ omega (arith, and-rest m)
-
-  pub rest-iff : (m : ℕ) → m < 2 ^ n → (bitAnd m (2 ^ n - 1 - (a - s)) ≡ 0) ↔ ((bitAnd m s ≡ 0) × (m ≤ a))
-  rest-iff m m<n = (λ z. (none-of-rest m z, under z), λ g. and-rest m ∙ none g)
-    where
-      under : bitAnd m (2 ^ n - 1 - (a - s)) ≡ 0 → m ≤ a
-      under z =
-          let j : n - k + k ≡ n = omega arith in
-          let few : m / 2 ^ k < 2 ^ (n - k) = div-lt-iff-lt-mul (pow-pos k) .1 (rw (← pow-add 2 (n - k) k, j) m<n) in
-          let zero : m / 2 ^ k * 2 ^ k ≡ 0 = omega (arith, ap (_* 2 ^ k) (mod-eq-of-lt few), and-rest m) in
-          omega (arith, split m k, mod-lt m (pow-pos k))
-
-      none : (bitAnd m s ≡ 0) × (m ≤ a) → m / 2 ^ k % 2 ^ (n - k) * 2 ^ k + bitAnd (m % 2 ^ k) s ≡ 0
-      none (z, le) =
-          let zero : m / 2 ^ k ≡ 0 = div-eq-of-lt (omega arith) in
-          rw (zero, ← and-low m, z, zero-mod) (omega arith)

@@ -3,6 +3,9 @@ ghost use mathlib.Core.Path.{_≡_};
 ghost use Prim.Native.Nat.{_<_};
 ghost use Rattle.bit_set.specs.BitSet.{has, including};
 
+// The set of all numbers under 64.
+pub const ALL: u64 = 18446744073709551615;
+
 // Whether x is in the set.
 pub fn has(set: u64, x: usize) -> bool
     requires { ⌜ x < 64 ⌝ }

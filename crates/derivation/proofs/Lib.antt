@@ -1,5 +1,6 @@
 -- Laws of the derivation file's definitions and of the check.
 pub mod LineLaws
+pub mod StartsLaws
 pub mod ParentLaws
 pub mod JudgeLaws
 pub mod ResolventLaws

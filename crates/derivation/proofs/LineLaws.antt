@@ -89,6 +89,9 @@ module _ (d : List ℕ) where
   line-value-within w k h =
       omega (arith, line-within (w .variables) (trailer-start d) (line-count d) (w .walked) k h, value-before d (line-start d k))
 
+pub well-walked : {n : ℕ} {d : List ℕ} → WellFormed n d → Walked d
+well-walked {n} w = record { variables = n; walked = w .walked }
+
 -- what 16 leaves true of each line's literals, and of all
 module _ (n : ℕ) (d : List ℕ) (w : WellFormed n d) where
   pub lines-no-repeats : some-of (λ l. repeats (derived l .literals)) (lines d) ≡ false

@@ -1,22 +1,29 @@
 -- What a reference names, by its parity: where its clause or line stands, its literals as a part of the file that holds
--- them, and its value; then resolution's lookup by these. Assumes nothing.
+-- them, and its value; then where the references end, the table of sets, and resolution's lookup. Assumes nothing.
 use mathlib.Core.Path.{_≡_, refl, sym, ap, _∙_}
-use mathlib.Core.Bool.{Bool, true, false, cond}
+use mathlib.Core.Bool.{Bool, true, false, cond, false≢true}
 use mathlib.Core.List.{List, []}
-use Prim.Native.Nat.{ℕ, _+_, _/_, _%_, _≤_, _<_}
+use Prim.Native.Nat.{ℕ, _+_, _*_, _/_, _%_, _≤_, _<_, max}
 use native.Mathlib.Nat.{le-trans}
 use native.Mathlib.Decide.{ℕ-discrete}
-use lib.ListN.{getD}
+use native.Mathlib.Omega.{arith}
+use lib.ListN.{length, getD, set}
+use lib.Seq.{getD-set-same, getD-set-other}
 use lib.Dec.{ltb, eqb}
+use borrow.Author.Count.{below-more}
 use borrow.Author.Tests.{eq-eqb, ne-eqb, ltb-true, lt-ltb}
+use Rattle.formula.specs.Formula.{some-of}
+use Rattle.bit_set.specs.BitSet.{mask}
+use Rattle.rule_file.specs.Limits.{max-clauses, max-lines}
 use Rattle.rule_file.specs.Words.{word, all-words, part}
 use Rattle.rule_file.specs.RuleFile.{clause-count, clause-start, clauses}
 use Rattle.rule_file.specs.Accepted.{Accepted}
 use Rattle.rule_file.proofs.WordsLaws.{part-words}
-use Rattle.rule_file.proofs.ClauseLaws.{clauses-length, clause-is, clause-within}
+use Rattle.rule_file.proofs.ClauseLaws.{clauses-length, clause-is, clause-passes, clause-within}
 use Rattle.resolution.specs.Resolution.{derived, original-clause, line-at, some-if, lookup}
-use Rattle.derivation.specs.DerivationFile.{line-count, size, value-start, value-at, lines}
+use Rattle.derivation.specs.DerivationFile.{line-count, size, value-start, value-at, clause-of, lines}
 use Rattle.derivation.specs.Readable.{Walked}
+use Rattle.derivation.specs.Starts.{max-references, ClauseStarts, LineStarts}
 use Rattle.derivation.specs.Parent.{line-start, is-named, referent-literals, referent-part, referent-value, referent}
 use Rattle.derivation.proofs.LineLaws.{derived-at, line-words, line-value-within}
 
@@ -25,6 +32,9 @@ module _ (r : ℕ) (even : r % 2 ≡ 0) where
   pub named-clause : (m k : ℕ) → is-named m k r ≡ true → r / 2 < m
   unfolding is-named
   named-clause m k e = ltb-true _ _ (rw (eq-eqb _ _ even) at e)
+
+  pub clause-kept-at : (b starts : List ℕ) → ClauseStarts b (clause-count b) starts → r / 2 < clause-count b → getD starts r 0 ≡ clause-start b (r / 2)
+  clause-kept-at b starts kept h = let e : r ≡ 2 * (r / 2) = omega arith in ap (λ i. getD starts i 0) e ∙ kept .each (r / 2) h
 
   pub clause-part : (b d : List ℕ) → part b (clause-start b (r / 2) + 1) (word b (clause-start b (r / 2))) ≡ referent-part b d r
   unfolding referent-part
@@ -44,6 +54,9 @@ module _ (r : ℕ) (odd : r % 2 ≡ 0 → ⊥) where
   pub named-line : (m k : ℕ) → is-named m k r ≡ true → r / 2 < k
   unfolding is-named
   named-line m k e = ltb-true _ _ (rw (ne-eqb _ _ odd) at e)
+
+  pub line-kept-at : (d starts : List ℕ) → LineStarts d (line-count d) starts → r / 2 < line-count d → getD starts r 0 ≡ line-start d (r / 2)
+  line-kept-at d starts kept h = let e : r ≡ 2 * (r / 2) + 1 = omega arith in ap (λ i. getD starts i 0) e ∙ kept .each (r / 2) h
 
   pub line-part : (b d : List ℕ) → part d (line-start d (r / 2) + 2) (size d (line-start d (r / 2))) ≡ referent-part b d r
   unfolding referent-part
@@ -67,6 +80,60 @@ referent-words b d a w r e = go (ℕ-discrete (r % 2) 0)
     go : Dec (r % 2 ≡ 0) → all-words (referent-part b d r) ≡ referent-literals b d r
     go (yes even) = clause-words r even b d a (named-clause r even _ _ e)
     go (no odd) = named-words r odd b d w (named-line r odd _ _ e)
+
+-- a test that no clause and no line passes
+pub referent-fails :
+    (b d : List ℕ) (f : List ℕ → Bool) → some-of f (clauses b) ≡ false → ((k : ℕ) → k < line-count d → f (clause-of d (line-start d k) .literals) ≡ false)
+    → (r : ℕ) → is-named (clause-count b) (line-count d) r ≡ true → f (referent-literals b d r) ≡ false
+unfolding referent-literals
+referent-fails b d f clauses-fail lines-fail r e = go (ℕ-discrete (r % 2) 0)
+  where
+    go : Dec (r % 2 ≡ 0) → f (cond (eqb (r % 2) 0) (getD (clauses b) (r / 2) []) (derived (line-at (lines d) (r / 2)) .literals)) ≡ false
+    go (yes even) = let h = named-clause r even _ _ e in rw (eq-eqb _ _ even, clause-is b (r / 2) h) (clause-passes b f (clause-count b) (r / 2) h clauses-fail)
+    go (no odd) = let h = named-line r odd _ _ e in rw (ne-eqb _ _ odd, derived-at d (r / 2) h) (lines-fail (r / 2) h)
+
+-- the references end, and are few enough for the table
+pub named-end : (m k r : ℕ) → is-named m k r ≡ true → r < 2 * max m k
+named-end m k r e = go (ℕ-discrete (r % 2) 0)
+  where
+    go : Dec (r % 2 ≡ 0) → r < 2 * max m k
+    go (yes even) = omega (arith, named-clause r even m k e)
+    go (no odd) = omega (arith, named-line r odd m k e)
+
+pub named-few : (m k r : ℕ) → m ≤ max-clauses → k ≤ max-lines → is-named m k r ≡ true → r < max-references
+named-few m k r few few-lines e = omega (arith, named-end m k r e)
+
+-- the reference to line j
+module _ (j : ℕ) where
+  odd : (2 * j + 1) % 2 ≡ 0 → ⊥
+  odd e = omega arith
+
+  half : (2 * j + 1) / 2 ≡ j
+  half = omega arith
+
+  pub line-named : (m k : ℕ) → j < k → is-named m k (2 * j + 1) ≡ true
+  unfolding is-named
+  line-named m k h = rw (ne-eqb _ _ odd, half) (lt-ltb j k h)
+
+  pub line-referent : (b d : List ℕ) → j < line-count d → referent-literals b d (2 * j + 1) ≡ clause-of d (line-start d j) .literals
+  unfolding referent-literals
+  line-referent b d h = rw (ne-eqb _ _ odd, half) (ap (λ c. c .literals) (derived-at d j h))
+
+-- the table of sets, one reference more at a time
+pub record MasksBefore (b d : List ℕ) (count : ℕ) (masks : List ℕ) : Type 0 where
+  pub each : (r : ℕ) → r < count → is-named (clause-count b) (line-count d) r ≡ true → getD masks r 0 ≡ mask (referent-literals b d r)
+
+module _ {b d : List ℕ} {r : ℕ} {masks : List ℕ} (before : MasksBefore b d r masks) where
+  pub mask-kept : (x : ℕ) → r < length masks → x ≡ mask (referent-literals b d r) → MasksBefore b d (r + 1) (set masks r x)
+  mask-kept x room here =
+      record {
+        each =
+            below-more _ r (λ k h named. getD-set-other masks r k x 0 (λ e. omega arith) ∙ before .each k h named)
+            (λ _. getD-set-same masks r x 0 room ∙ here);
+      }
+
+  pub mask-passed : is-named (clause-count b) (line-count d) r ≡ false → MasksBefore b d (r + 1) masks
+  mask-passed none = record { each = below-more _ r (before .each) (λ named. absurd (false≢true (sym none ∙ named))) }
 
 pub named-more : (m k l r : ℕ) → k ≤ l → is-named m k r ≡ true → is-named m l r ≡ true
 unfolding is-named

@@ -1,15 +1,17 @@
 -- What a reference names, and where it stands: 2j is clause j of the rule file, 2j + 1 is line j of the derivation.
 -- What the code alone needs; assumes nothing.
-use mathlib.Core.Bool.{Bool, cond}
+use mathlib.Core.Path.{_≡_}
+use mathlib.Core.Bool.{Bool, true, cond}
 use mathlib.Core.List.{List, []}
 use Prim.Native.Nat.{ℕ, _+_, _/_, _%_}
 use lib.ListN.{getD}
 use lib.Dec.{ltb, eqb}
+use Rattle.bit_set.specs.BitSet.{mask}
 use Rattle.rule_file.specs.Walk.{start}
 use Rattle.rule_file.specs.Words.{word, part}
-use Rattle.rule_file.specs.RuleFile.{clauses, clause-start}
+use Rattle.rule_file.specs.RuleFile.{clause-count, clauses, clause-start}
 use Rattle.resolution.specs.Resolution.{Annotated, derived, line-at}
-use Rattle.derivation.specs.DerivationFile.{size, after-line, lines}
+use Rattle.derivation.specs.DerivationFile.{line-count, size, after-line, lines}
 
 -- the word where line j of the derivation begins, by a walk from word 0
 abbrev pub line-start : List ℕ → ℕ → ℕ
@@ -35,3 +37,7 @@ referent-value d r = cond (eqb (r % 2) 0) 0 (derived (line-at (lines d) (r / 2))
 
 abbrev pub referent : List ℕ → List ℕ → ℕ → Annotated
 referent b d r = record { literals = referent-literals b d r; value = referent-value d r }
+
+-- the table has, at each reference that names a clause or a line, the set of its literals
+abbrev pub Masks : List ℕ → List ℕ → List ℕ → Type 0
+Masks b d masks = (r : ℕ) → is-named (clause-count b) (line-count d) r ≡ true → getD masks r 0 ≡ mask (referent-literals b d r)

@@ -3,17 +3,22 @@ use mathlib.Core.Path.{_≡_}
 use mathlib.Core.Bool.{Bool, true, _&&_}
 use mathlib.Core.List.{List}
 use mathlib.Core.Option.{Option, none, some}
-use Prim.Native.Nat.{ℕ, _+_, _<_}
+use Prim.Native.Nat.{ℕ, _+_, _≤_, _<_}
+use lib.ListN.{length}
 use lib.Dec.{ltb}
+use Rattle.rule_file.specs.Limits.{max-lines}
 use Rattle.rule_file.specs.Words.{word}
 use Rattle.rule_file.specs.RuleFile.{variable-count, clauses, prefix}
 use Rattle.rule_file.specs.Accepted.{Accepted, header}
 use Rattle.rule_file.specs.declared.Header.{Header}
 use Rattle.resolution.specs.Resolution.{line-at, judge}
+use Rattle.literals.specs.Occurrences.{Occurrences}
+use Rattle.literals.specs.Denominators.{Denominators}
 use Rattle.derivation.specs.DerivationFile.{trailer-start, line-count, kind, value-start, lines}
 use Rattle.derivation.specs.Check.{walk-lines}
 use Rattle.derivation.specs.WellFormed.{WellFormed}
-use Rattle.derivation.specs.Parent.{line-start, is-named}
+use Rattle.derivation.specs.Parent.{line-start, is-named, Masks}
+use Rattle.derivation.specs.Starts.{max-references, LineStarts, Starts}
 use Rattle.derivation.specs.declared.judge.Inference.{Inference}
 use Rattle.derivation.specs.declared.Fault.{Fault}
 use Rattle.derivation.specs.declared.Fault.the-variants.{Nothing, At}
@@ -27,6 +32,14 @@ pub record Readable (b d : List ℕ) (h : Header) : Type 0 where
   pub accepted : Accepted b
   pub header-is : h ≡ header b
   pub well-formed : WellFormed (variable-count b) d
+
+-- the tables that judging reads are made: where what each reference names begins, the set of its literals, in which
+-- clauses each literal occurs, and R(i)
+pub record Tables (b d starts masks occurrences denominators : List ℕ) : Type 0 where
+  pub starts-are : Starts b d starts
+  pub masks-are : Masks b d masks
+  pub occurrences-are : Occurrences (clauses b) occurrences
+  pub denominators-are : Denominators (prefix b) denominators
 
 -- besides, line k stands at word i, and the lines before it follow
 pub record Reached (b d : List ℕ) (h : Header) (k i : ℕ) : Type 0 where
@@ -54,6 +67,19 @@ pub record Founded (b d : List ℕ) (h : Header) (k i : ℕ) (s : Inference) : T
 pub record Walked (d : List ℕ) : Type 0 where
   pub variables : ℕ
   pub walked : walk-lines d variables (trailer-start d) (line-count d) 0 ≡ none
+
+-- what looking up a line is given: besides, the lines' starts are kept
+pub record LinesLocated (d starts : List ℕ) : Type 0 where
+  pub walked : Walked d
+  pub few-lines : line-count d ≤ max-lines
+  pub room : length starts ≡ max-references
+  pub starts-are : LineStarts d (line-count d) starts
+
+-- what looking up a clause or a line is given: both files have passed their checks, and the starts of both are kept
+pub record Located (b d starts : List ℕ) : Type 0 where
+  pub accepted : Accepted b
+  pub well-formed : WellFormed (variable-count b) d
+  pub starts-are : Starts b d starts
 
 -- the refusal's number and line that judging found, if there is one
 abbrev pub fault : Fault → Option (ℕ × ℕ)

@@ -3,13 +3,20 @@ mod judge;
 mod lines;
 mod parent;
 mod parts;
+mod starts;
 
 use crate::judge::judge_lines;
 use crate::lines::literal_fault;
 use crate::lines::walk_fault;
 use crate::parent::is_named;
+use crate::parent::keep_masks;
 use crate::parent::parent;
 use crate::parent::parent_value;
+use crate::starts::REFERENCES;
+use crate::starts::keep_clauses;
+use literals::OCCURRENCES;
+use literals::denominators;
+use literals::put_occurrences;
 use rule_file::Found;
 use rule_file::Header;
 use rule_file::Reading;
@@ -24,6 +31,7 @@ ghost use Rattle.rule_file.specs.Accepted.{Accepted, header as header-of};
 ghost use Rattle.derivation.specs.DerivationFile.{line-count};
 ghost use Rattle.derivation.specs.Check.{checking, check-file, check-from-13, check-from-15, check-from-17, check-from-21};
 ghost use Rattle.derivation.specs.WellFormed.{RightCounts};
+ghost use Rattle.derivation.specs.Starts.{Starts};
 ghost use Rattle.derivation.specs.Readable.{Readable};
 
 // The value of the empty clause that the derivation closes with, out of the whole.
@@ -90,42 +98,72 @@ fn check_structure<'a>(rule: &'a [u8], derivation: &'a [u8], header: Header) -> 
 {
     let end = derivation.len() / 4 - 3;
     let count = word(derivation, end);
-    if let Found::At(line) = walk_fault(derivation, header.variables, end, count) {
+    let mut starts: [u16; REFERENCES] = [0; REFERENCES];
+    if let Found::At(line) = walk_fault(derivation, header.variables, end, count, &mut starts) {
         return Checking::Refused(Refusal::At(15, line));
     }
-    if let Found::At(line) = literal_fault(derivation, header.variables, count) {
+    if let Found::At(line) = literal_fault(derivation, header.variables, count, &starts) {
         return Checking::Refused(Refusal::At(16, line));
     }
-    check_lines(rule, derivation, header, count)
+    keep_clauses(rule, header, &mut starts);
+    check_lines(rule, derivation, header, count, &starts)
 }
 
 // 17 and on: each line, then the closing reference.
-fn check_lines<'a>(rule: &'a [u8], derivation: &'a [u8], header: Header, count: usize) -> Checking
+fn check_lines<'a>(
+    rule: &'a [u8],
+    derivation: &'a [u8],
+    header: Header,
+    count: usize,
+    starts: &[u16; REFERENCES],
+) -> Checking
     requires { ⌜ Readable (now rule) (now derivation) header ⌝ }
     requires { ⌜ count ≡ line-count (now derivation) ⌝ }
+    requires { ⌜ Starts (now rule) (now derivation) (now starts) ⌝ }
     ensures { λ r. ⌜ checking r ≡ check-from-17 (now (rule .entry)) (now (derivation .entry)) ⌝ }
 {
-    if let Fault::At(number, line) = judge_lines(rule, derivation, header, count) {
+    let mut masks: [u64; REFERENCES] = [0; REFERENCES];
+    keep_masks(rule, derivation, header, count, starts, &mut masks);
+    let mut occurrences: [u64; OCCURRENCES] = [0; OCCURRENCES];
+    put_occurrences(rule, header, &mut occurrences);
+    let denominators = denominators(rule, header);
+    if let Fault::At(number, line) = judge_lines(
+        rule,
+        derivation,
+        header,
+        count,
+        starts,
+        &masks,
+        &occurrences,
+        &denominators,
+    ) {
         return Checking::Refused(Refusal::At(number, line));
     }
-    check_closing(rule, derivation, header, count)
+    check_closing(rule, derivation, header, count, starts)
 }
 
 // 21, or the value of the empty clause that the closing reference names.
-fn check_closing<'a>(rule: &'a [u8], derivation: &'a [u8], header: Header, count: usize) -> Checking
+fn check_closing<'a>(
+    rule: &'a [u8],
+    derivation: &'a [u8],
+    header: Header,
+    count: usize,
+    starts: &[u16; REFERENCES],
+) -> Checking
     requires { ⌜ Readable (now rule) (now derivation) header ⌝ }
     requires { ⌜ count ≡ line-count (now derivation) ⌝ }
+    requires { ⌜ Starts (now rule) (now derivation) (now starts) ⌝ }
     ensures { λ r. ⌜ checking r ≡ check-from-21 (now (rule .entry)) (now (derivation .entry)) ⌝ }
 {
     let reference = word(derivation, derivation.len() / 4 - 2);
     if !is_named(reference, header.clauses, count) {
         return Checking::Refused(Refusal::Alone(21));
     }
-    let c = parent(rule, derivation, reference);
+    let c = parent(rule, derivation, starts, reference);
     if 4 <= c.len() {
         return Checking::Refused(Refusal::Alone(21));
     }
-    let value = parent_value(derivation, reference);
+    let value = parent_value(derivation, starts, reference);
     Checking::Accepted(Closing {
         value,
         whole: header.whole,

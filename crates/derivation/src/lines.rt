@@ -1,4 +1,7 @@
 // Checks 15 and 16, over the lines, and where a line stands.
+use crate::starts::REFERENCES;
+use crate::starts::keep;
+use crate::starts::start_at;
 use rule_file::Found;
 use rule_file::clauses::out_of_range;
 use rule_file::clauses::repeats;
@@ -6,14 +9,16 @@ use rule_file::words::word;
 ghost use mathlib.Core.Path.{_≡_};
 ghost use mathlib.Core.Bool.{_||_};
 ghost use mathlib.Core.Option.{none};
-ghost use Prim.Native.Nat.{_+_, _≤_, _<_};
+ghost use Prim.Native.Nat.{_+_, _^_, _≤_, _<_};
 ghost use lib.Dec.{eqb};
-ghost use Rattle.rule_file.specs.Limits.{max-variables};
+ghost use lib.ListN.{length};
+ghost use Rattle.rule_file.specs.Limits.{max-variables, max-lines};
 ghost use Rattle.rule_file.specs.Walk.{first};
 ghost use Rattle.rule_file.specs.Words.{word-count};
 ghost use Rattle.rule_file.specs.Checks.{place};
 ghost use Rattle.derivation.specs.DerivationFile.{trailer-start, after-line, lines-from, line-of};
 ghost use Rattle.derivation.specs.Check.{line-fits, walk-lines, line-fails};
+ghost use Rattle.derivation.specs.Starts.{max-references, LineStarts};
 
 // The word after the line at word i. A literal count is any 32-bit number, and the sum is 64 bits wide.
 pub(crate) fn after_line(derivation: &[u8], i: usize) -> usize
@@ -54,10 +59,21 @@ fn line_fits(derivation: &[u8], n: usize, end: usize, i: usize) -> bool
 }
 
 // Check 15: the first line of the walk of `count` lines from word 0 that does not fit before `end`, or `count` where
-// only the walk's end is wrong.
-pub(crate) fn walk_fault(derivation: &[u8], n: usize, end: usize, count: usize) -> Found
+// only the walk's end is wrong. On the way it keeps where each line begins.
+pub(crate) fn walk_fault(
+    derivation: &[u8],
+    n: usize,
+    end: usize,
+    count: usize,
+    starts: &mut [u16; REFERENCES],
+) -> Found
     requires { ⌜ end ≤ word-count (now derivation) ⌝ }
+    requires { ⌜ end < 2 ^ 16 ⌝ }
+    requires { ⌜ count ≤ max-lines ⌝ }
+    requires { ⌜ length (now starts) ≡ max-references ⌝ }
     ensures { λ r. ⌜ place r ≡ walk-lines (now (derivation .entry)) n end count 0 ⌝ }
+    ensures { λ r. ⌜ (place r ≡ none → LineStarts (now (derivation .entry)) count (now (starts .exit))) ⌝ }
+    ensures { λ _. ⌜ length (now (starts .exit)) ≡ max-references ⌝ }
 {
     let mut line = 0;
     let mut i = 0;
@@ -65,6 +81,7 @@ pub(crate) fn walk_fault(derivation: &[u8], n: usize, end: usize, count: usize) 
         if !line_fits(derivation, n, end, i) {
             return Found::At(line);
         }
+        keep(starts, 2 * line + 1, i);
         i = after_line(derivation, i);
         line += 1;
     }
@@ -88,18 +105,24 @@ fn line_fails(derivation: &[u8], n: usize, i: usize) -> bool
 }
 
 // Check 16: the first line with a literal of 2n or more or with a variable twice.
-pub(crate) fn literal_fault(derivation: &[u8], n: usize, count: usize) -> Found
+pub(crate) fn literal_fault(
+    derivation: &[u8],
+    n: usize,
+    count: usize,
+    starts: &[u16; REFERENCES],
+) -> Found
     requires { ⌜ n ≤ max-variables ⌝ }
     requires { ⌜ walk-lines (now derivation) n (trailer-start (now derivation)) count 0 ≡ none ⌝ }
+    requires { ⌜ count ≤ max-lines ⌝ }
+    requires { ⌜ LineStarts (now derivation) count (now starts) ⌝ }
     ensures { λ r. ⌜ place r ≡ first (line-fails n) (lines-from (now (derivation .entry)) count 0) ⌝ }
+    ensures unchanged { λ _. ⌜ now (starts .exit) ≡ now (starts .entry) ⌝ }
 {
     let mut line = 0;
-    let mut i = 0;
     while line < count {
-        if line_fails(derivation, n, i) {
+        if line_fails(derivation, n, start_at(starts, 2 * line + 1)) {
             return Found::At(line);
         }
-        i = after_line(derivation, i);
         line += 1;
     }
     Found::Nothing

@@ -1,13 +1,29 @@
--- Tests over a list. First as a loop takes them, one element at a time, where ys is what is left: some-of, all-of,
--- repeats. Then a test that no element passes, and tests of an appended list. Not here: a test as a statement on the
--- elements (resolution, Membership). Assumes nothing.
+-- The answers of tests; then tests over a list. First as a loop takes them, one element at a time, where ys is what is
+-- left: some-of, repeats. Then a test that no element passes, by the elements' places, and of an appended list. Not
+-- here: a test as a statement on the elements (resolution, Membership). Assumes nothing.
 use Prim.Native.Nat.{ℕ, suc, _<_}
 use native.Mathlib.Omega.{arith}
 use mathlib.Core.Path.{_≡_, refl, ap, sym, _∙_}
-use mathlib.Core.Bool.{Bool, true, false, true≢false, _&&_, _||_, and-assoc, or-assoc}
+use mathlib.Core.Logic.{_↔_}
+use mathlib.Core.Bool.{Bool, true, false, true≢false, not, _||_, or-assoc}
 use mathlib.Core.List.{List, [], _∷_, _++_}
 use lib.ListN.{length, getD}
+use borrow.Author.Tests.{not-true, not-false}
 use Rattle.formula.specs.Formula.{some-of, all-of, repeats}
+
+-- two answers that are true together are equal
+pub same-truth : {s t : Bool} → (s ≡ true) ↔ (t ≡ true) → s ≡ t
+same-truth {s = true} e = sym (e .0 refl)
+same-truth {s = false} {t = true} e = e .1 refl
+same-truth {s = false} {t = false} e = refl
+
+-- a test t whose answer r is branched on by its negation
+module _ {r t : Bool} (e : r ≡ t) where
+  pub test-failed : not r ≡ true → t ≡ false
+  test-failed h = sym e ∙ not-true r h
+
+  pub test-passed : not r ≡ false → t ≡ true
+  test-passed h = sym e ∙ not-false r h
 
 module _ {A : Type 0} (f : A → Bool) {x : A} {xs ys : List A} where
   -- the element at hand passes
@@ -24,23 +40,6 @@ module _ {A : Type 0} (f : A → Bool) {x : A} {xs ys : List A} where
 pub some-over : {A : Type 0} (f : A → Bool) {ys : List A} → ys ≡ [] → some-of f ys ≡ false
 unfolding some-of
 some-over f e = ap (some-of f) e
-
--- the same for a test that every element passes
-module _ {A : Type 0} (f : A → Bool) {x : A} {xs ys : List A} where
-  -- the element at hand fails
-  pub all-fails : ys ≡ x ∷ xs → f x ≡ false → all-of f ys ≡ false
-  unfolding all-of
-  all-fails e t = ap (all-of f) e ∙ ap (_&& all-of f xs) t
-
-  -- it passes
-  pub all-later : ys ≡ x ∷ xs → f x ≡ true → all-of f xs ≡ all-of f ys
-  unfolding all-of
-  all-later e t = sym (ap (all-of f) e ∙ ap (_&& all-of f xs) t)
-
--- none is left
-pub all-over : {A : Type 0} (f : A → Bool) {ys : List A} → ys ≡ [] → all-of f ys ≡ true
-unfolding all-of
-all-over f e = ap (all-of f) e
 
 -- where no literal is left, no variable stands twice
 pub repeats-over : {ys : List ℕ} → ys ≡ [] → repeats ys ≡ false
@@ -61,11 +60,16 @@ module _ {A : Type 0} (f : A → Bool) (x : A) (xs : List A) (e : some-of f (x �
   unfolding some-of
   none-rest = or-false (f x) (some-of f xs) e .1
 
--- where the element at each place fails, none passes
+-- by places: where the element at each place fails, none passes, and where it passes, all do
 pub none-by-places : {A : Type 0} (f : A → Bool) (d : A) (xs : List A) → ((k : ℕ) → k < length xs → f (getD xs k d) ≡ false) → some-of f xs ≡ false
 unfolding some-of
 none-by-places f d [] h = refl
 none-by-places f d (x ∷ xs) h = rw (h 0 (omega arith)) (none-by-places f d xs (λ k l. h (suc k) (omega arith)))
+
+pub all-by-places : {A : Type 0} (f : A → Bool) (d : A) (xs : List A) → ((k : ℕ) → k < length xs → f (getD xs k d) ≡ true) → all-of f xs ≡ true
+unfolding all-of
+all-by-places f d [] h = refl
+all-by-places f d (x ∷ xs) h = rw (h 0 (omega arith)) (all-by-places f d xs (λ k l. h (suc k) (omega arith)))
 
 -- where neither test passes anywhere, the second does not
 pub none-second : {A : Type 0} (f g : A → Bool) (xs : List A) → some-of (λ x. f x || g x) xs ≡ false → some-of g xs ≡ false
@@ -74,11 +78,6 @@ none-second f g [] e = refl
 none-second f g (x ∷ xs) e =
     let (e₁, e₂) = or-false (f x || g x) (some-of (λ x. f x || g x) xs) e in
     rw (or-false (f x) (g x) e₁ .1) (none-second f g xs e₂)
-
-pub all-of-append : {A : Type 0} (f : A → Bool) (xs ys : List A) → all-of f (xs ++ ys) ≡ (all-of f xs && all-of f ys)
-unfolding all-of
-all-of-append f [] ys = refl
-all-of-append f (x ∷ xs) ys = ap (f x &&_) (all-of-append f xs ys) ∙ sym (and-assoc (f x) (all-of f xs) (all-of f ys))
 
 pub some-of-append : {A : Type 0} (f : A → Bool) (xs ys : List A) → some-of f (xs ++ ys) ≡ (some-of f xs || some-of f ys)
 unfolding some-of

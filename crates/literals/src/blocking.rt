@@ -1,58 +1,65 @@
-// Rule R.2's test: each clause of the formula contains the opposite of some literal of c.
-use rule_file::Header;
-use rule_file::words::some_between;
-use rule_file::words::word;
+// Rule R.2's test on sets: each clause of the formula contains the opposite of some literal of c.
+use crate::occurrence::OCCURRENCES;
+use bit_set::ALL;
 ghost use mathlib.Core.Path.{_≡_};
-ghost use Prim.Native.Nat.{_+_, _^_, _≤_, _<_};
-ghost use Rattle.formula.specs.Formula.{opposite, some-of, member};
-ghost use Rattle.rule_file.specs.Words.{word-count, words, all-words};
-ghost use Rattle.rule_file.specs.RuleFile.{clauses};
-ghost use Rattle.rule_file.specs.Accepted.{Accepted, header as header-of};
+ghost use mathlib.Core.Bool.{_||_};
+ghost use mathlib.Core.List.{List};
+ghost use Prim.Native.Nat.{ℕ, _+_, _^_, _≤_, _<_};
+ghost use lib.Dec.{leb};
+ghost use lib.ListN.{length, getD};
+ghost use Rattle.formula.specs.Formula.{opposite, some-of};
+ghost use Rattle.bit_set.specs.BitSet.{has, mask};
+ghost use Rattle.rule_file.specs.Limits.{max-clauses};
 ghost use Rattle.resolution.specs.Resolution.{is-blocking};
+ghost use Rattle.literals.specs.Occurrences.{Occurrences};
 
 // The literal of the same variable with the other sign.
 fn opposite(l: usize) -> usize
-    requires { ⌜ l < 2 ^ 32 ⌝ }
     ensures { λ r. ⌜ r ≡ opposite l ⌝ }
 {
-    if l % 2 == 0 { l + 1 } else { l - 1 }
+    l ^ 1
 }
 
-// Whether the opposite of some literal of c stands among the k literals from word i of the rule file on.
-fn opposes(c: &[u8], rule: &[u8], i: usize, k: usize) -> bool
-    requires { ⌜ i + k ≤ word-count (now rule) ⌝ }
-    ensures { λ r. ⌜ r ≡ some-of (λ l. member (opposite l) (words (now (rule .entry)) i k)) (all-words (now (c .entry))) ⌝ }
+// Those of the 64 clauses whose words stand from `words` on in the table that contain the opposite of some literal of
+// c, and those of `seen`.
+fn opposed(table: &[u64; OCCURRENCES], words: usize, c: u64, seen: u64) -> u64
+    requires { ⌜ words + 64 ≤ max-clauses ⌝ }
+    ensures { λ r. ⌜ ((x : List ℕ) → c ≡ mask x → (h : ℕ) → has r h ≡ (has seen h || some-of (λ l. has (getD (now (table .entry)) (words + opposite l) 0) h) x)) ⌝ }
 {
-    let mut at = 0;
-    let mut left = c.len() / 4;
-    while 0 < left {
-        let l = opposite(word(c, at));
-        if some_between(rule, i, k, l, l + 1) {
-            return true;
-        }
-        at += 1;
-        left -= 1;
+    let mut set = seen;
+    let mut left = c;
+    while left != 0 {
+        let l = u64::trailing_zeros(left) as usize;
+        set = set | table[words + opposite(l)];
+        left = left & (left - 1);
     }
-    false
+    set
 }
 
-// Whether each clause of the rule file contains the opposite of some literal of c.
-pub fn is_blocking(rule: &[u8], header: Header, c: &[u8]) -> bool
-    requires { ⌜ Accepted (now rule) ⌝ }
-    requires { ⌜ header ≡ header-of (now rule) ⌝ }
-    ensures { λ r. ⌜ r ≡ is-blocking (clauses (now (rule .entry))) (all-words (now (c .entry))) ⌝ }
-    ensures rule_unchanged { λ _. ⌜ now (rule .exit) ≡ now (rule .entry) ⌝ }
-    ensures clause_unchanged { λ _. ⌜ now (c .exit) ≡ now (c .entry) ⌝ }
+// Of 64 numbers those from `count` on.
+fn from(count: usize) -> u64
+    ensures { λ r. ⌜ ((h : ℕ) → h < 64 → has r h ≡ leb count h) ⌝ }
 {
-    let mut i = 0;
-    let mut left = header.clauses;
-    while 0 < left {
-        let k = word(rule, i);
-        if !opposes(c, rule, i + 1, k) {
+    if 64 <= count {
+        return 0;
+    }
+    let one: u64 = 1;
+    ALL - ((one << count) - 1)
+}
+
+// Whether each of the clauses, whose occurrences are in the table, contains the opposite of some literal of c: 64
+// clauses at a time, those past the last one taken for opposed.
+pub fn is_blocking(table: &[u64; OCCURRENCES], clauses: usize, c: u64) -> bool
+    requires { ⌜ clauses ≤ max-clauses ⌝ }
+    ensures { λ r. ⌜ ((φ : List (List ℕ)) (x : List ℕ) → Occurrences φ (now (table .entry)) → length φ ≡ clauses → c ≡ mask x → r ≡ is-blocking φ x) ⌝ }
+    ensures unchanged { λ _. ⌜ now (table .exit) ≡ now (table .entry) ⌝ }
+{
+    let mut passed = 0;
+    while passed < clauses {
+        if opposed(table, passed, c, from(clauses - passed)) != ALL {
             return false;
         }
-        i = i + 1 + k;
-        left -= 1;
+        passed += 64;
     }
     true
 }

@@ -1,8 +1,10 @@
--- Laws of sets as rising lists, of the limits, of lines as they are written, of sets as clauses, of the walk at a node
--- and of the answer.
+-- Laws of sets as rising lists, of the limits, of lines as they are written, of sets of clauses, of sets as clauses, of
+-- the walk at a node and of the answer.
 pub mod MemberLaws
 pub mod LimitLaws
 pub mod LineLaws
+pub mod LevelLaws
+pub mod ClauseSetLaws
 pub mod SetClauses
 pub mod WalkNode
 pub mod Outcomes

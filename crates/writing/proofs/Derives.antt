@@ -12,7 +12,7 @@ use Rattle.rule_file.specs.Limits.{max-bytes, max-lines}
 use Rattle.rule_file.specs.RuleFile.{variable-count, clauses, prefix, whole}
 use Rattle.rule_file.specs.Accepted.{Accepted}
 use Rattle.rule_file.proofs.ClauseLaws.{clauses-length}
-use Rattle.rule_file.proofs.PrefixLaws.{prefix-length}
+use Rattle.rule_file.proofs.PrefixLaws.{prefix-length, denominator-within}
 use Rattle.resolution.specs.Resolution.{Annotated, Line, derived, line-at, Names, clause, line, Follows, by-R2, by-R3}
 use Rattle.resolution.proofs.Membership.{in-range-iff}
 use Rattle.resolution.proofs.Levels.{level-within}
@@ -20,7 +20,6 @@ use Rattle.resolution.proofs.Bounds.{derivable-bounded}
 use Rattle.derivation.specs.Check.{line-fails}
 use Rattle.derivation.specs.WellFormed.{WellFormed}
 use Rattle.derivation.specs.Derives.{Derives}
-use Rattle.derivation.proofs.JudgeLaws.{rest-bounded}
 use Rattle.writing.specs.File.{derivation-bytes}
 use Rattle.writing.proofs.Leaving.{Clause, Proved}
 use Rattle.writing.proofs.FileLaws.{Small, small-nil, small-cons, added, LineFits, ReadsAs, file-back}
@@ -36,7 +35,7 @@ module _ (b : List ℕ) (a : Accepted b) where
 
     value-small : c .value < 2 ^ 64
     value-small =
-        omega (arith, derivable-bounded (k .derivable), rest-bounded b a _ (level-within (variable-count b) (c .literals) in-range))
+        omega (arith, derivable-bounded (k .derivable), denominator-within b a _ (level-within (variable-count b) (c .literals) in-range))
 
   module _ (ls : List Line) where
     -- references to the file's clauses and to at most 1,024 lines

@@ -104,6 +104,8 @@ pub fn cases() -> Vec<Case> {
     wholes(&mut list);
     levels_and_limits(&mut list);
     derivations(&mut list);
+    many_parents(&mut list);
+    many_clauses(&mut list);
     clauses(&mut list);
     written(&mut list);
     written_lengths(&mut list);
@@ -422,6 +424,54 @@ fn levels_and_limits(list: &mut List) {
     // An existential choice between a satisfied node and an undetermined one: all three numbers are the whole.
     let choice = RuleDraft::new(&[&[0, 2]], &[[0, 0], [1, 1]]);
     list.add("cut-satisfied-beside-undetermined", &choice.bytes(), Operation::Cut(1), 0, &[2, 2, 2]);
+}
+
+/// So many clauses over 32 existential variables, no two alike, of three literals each, the first of them `literal`.
+fn distinct_clauses(count: usize, literal: u32) -> RuleDraft {
+    let pairs = (1..32).flat_map(|a| (a + 1..32).map(move |b| (a, b)));
+    let clauses = pairs.flat_map(|(a, b)| (0..4).map(move |signs| vec![literal, 2 * a + signs % 2, 2 * b + signs / 2]));
+    RuleDraft { clauses: clauses.take(count).collect(), prefix: vec![[0, 0]; 32] }
+}
+
+/// Kind 1 over as many clauses as fill words of 64, one less and one more, and the most: the line {0} follows where
+/// each clause has literal 1, and does not where one, wherever it stands, has literal 0 instead.
+fn many_clauses(list: &mut List) {
+    let line = [1, 1, 0, 1, 0, 1, 1, 8];
+    for m in [1, 63, 64, 65, 128, 1_024] {
+        let rule = distinct_clauses(m, 1);
+        list.check(&format!("kind-1-over-{m}"), &rule, &line, 21, &[]);
+        let mut places = vec![0, 63, 64, m - 1];
+        places.retain(|&place| place < m);
+        places.sort_unstable();
+        places.dedup();
+        for place in places {
+            let mut rule = rule.clone();
+            rule.clauses[place][0] = 0;
+            list.check(&format!("kind-1-over-{m}-but-{place}"), &rule, &line, 17, &[0]);
+        }
+    }
+}
+
+/// References to the last of 1,024 clauses and of 1,024 lines, and one past each.
+fn many_parents(list: &mut List) {
+    let mut rule = distinct_clauses(1_020, 1);
+    rule.clauses.extend([vec![0, 2], vec![3], vec![1], vec![0]]);
+    // From clauses 1,022 and 1,023, {1} and {0}: the empty clause.
+    let empty =
+        |on_true, on_false| LineDraft { literals: Vec::new(), value: 0, resolved: Some([0, on_true, on_false]) };
+    // From clauses 1,021 and 1,020, {3} and {0, 2}: {0}.
+    let unit = LineDraft { literals: vec![0], value: 0, resolved: Some([1, 2_042, 2_040]) };
+    let derivation = |line: LineDraft, closing| {
+        let mut lines = vec![empty(2_044, 2_046); 1_022];
+        lines.extend([unit.clone(), line]);
+        DerivationDraft { lines, closing }.words()
+    };
+    list.check("last-line", &rule, &derivation(empty(2_044, 2_045), 2_047), 0, &[0, 1]);
+    list.check("last-line-of-itself", &rule, &derivation(empty(2_044, 2_047), 2_047), 18, &[1_023]);
+    list.check("last-line-of-clause-1024", &rule, &derivation(empty(2_044, 2_048), 2_047), 18, &[1_023]);
+    list.check("closing-line-1022", &rule, &derivation(empty(2_044, 2_045), 2_045), 21, &[]);
+    list.check("closing-line-1024", &rule, &derivation(empty(2_044, 2_045), 2_049), 21, &[]);
+    list.check("closing-clause-1024", &rule, &derivation(empty(2_044, 2_045), 2_048), 21, &[]);
 }
 
 /// Each of 13 to 21 on both sides of its border.

@@ -14,11 +14,16 @@ use Rattle.rule_file.proofs.WalkLaws.{elements-length}
 use Rattle.derivation.specs.DerivationFile.{line-count, closing-reference}
 use Rattle.derivation.specs.Check.{check-from-21}
 use Rattle.derivation.specs.Parent.{is-named, referent-literals, referent-value}
+use Rattle.derivation.specs.Readable.{Located}
+use Rattle.derivation.proofs.LineLaws.{well-walked}
 use Rattle.derivation.proofs.ParentLaws.{named-line, referent-words}
-use Rattle.derivation.proofs.JudgeLaws.{walked-file}
+use Rattle.derivation.proofs.JudgeLaws.{located-file, lines-located}
 use Rattle.derivation.proofs.CheckLaws.{closing-absent, closing-with-literals, closing-empty}
 use Rattle.derivation.proofs.check_closing.Statement.{statement}
 use Rattle.derivation.proofs.check_closing.Tie as tie
+
+located : (s : tie.Start) → Located (s .args .rule .now) (s .args .derivation .now) (s .args .starts .now)
+located s = located-file (s .pre .0) (s .pre .1 .1)
 
 -- the test is on the closing reference
 test : (c : tie.After-is-named) →
@@ -28,7 +33,7 @@ test : (c : tie.After-is-named) →
 test c =
     let s = c .before .before .before .before in
     let m = ap (λ h. h .clauses) (s .pre .0 .header-is) in
-    c .is-named .ensures ∙ (λ j. is-named (m j) (s .pre .1 j) (c .before .word .ensures .0 j))
+    c .is-named .ensures ∙ (λ j. is-named (m j) (s .pre .1 .0 j) (c .before .word .ensures .0 j))
 
 named : (c : tie.Else1) →
     let b = c .before .before .before .before .before .args .rule .now in
@@ -51,7 +56,7 @@ size c =
     let b = c .before .before .before .before .before .before .args .rule .now in
     let d = c .before .before .before .before .before .before .args .derivation .now in
     let r = c .before .before .before .before .before .before .pre .0 in
-    let words = ap all-words (c .parent .ensures .0) ∙ referent-words b d (r .accepted) (walked-file r) _ (named-read (c .before)) in
+    let words = ap all-words (c .parent .ensures .0) ∙ referent-words b d (r .accepted) (well-walked (r .well-formed)) _ (named-read (c .before)) in
     sym (elements-length next-word (word _) _ 0) ∙ ap length (words ∙ ap (referent-literals b d) (c .before .before .before .word .ensures .0))
 
 returns : tie.Need-returns
@@ -59,14 +64,15 @@ unfolding check-from-21
 returns c = rw (closing-absent _ _ _ (sym (test (c .before)) ∙ not-true _ (c .if1 .taken)))
 
 parent-requires : tie.Need-parent-requires
-parent-requires c κs = let r = c .before .before .before .before .before .pre .0 in (r .accepted, (walked-file r, named-read c))
+parent-requires c κs = (located (c .before .before .before .before .before), named-read c)
 
 returns-2 : tie.Need-returns-2
 unfolding check-from-21
 returns-2 c = rw (closing-with-literals _ _ _ (named (c .before .before)) (λ e. let s = size (c .before) in omega arith))
 
 parent-value-requires : tie.Need-parent-value-requires
-parent-value-requires c κs = (walked-file (c .before .before .before .before .before .before .before .pre .0), λ e. named-line _ (λ z. omega arith) _ _ (named-read (c .before .before)))
+parent-value-requires c κs =
+    (lines-located (located (c .before .before .before .before .before .before .before)), λ e. named-line _ (λ z. omega arith) _ _ (named-read (c .before .before)))
 
 returns-3 : tie.Need-returns-3
 unfolding check-from-21

@@ -8,16 +8,19 @@ use Rattle.derivation.proofs.check_lines.Tie as tie
 
 returns : tie.Need-returns
 unfolding check-from-17
-returns c = rw (← (sym (ap fault (c .before .number .given .1)) ∙ c .before .before .before .judge-lines .ensures))
+returns c = rw (← (sym (ap fault (c .before .number .given .1)) ∙ c .before .before .before .judge-lines .ensures .0))
 
 returns-2 : tie.Need-returns-2
 unfolding check-from-17
-returns-2 c = rw (← (sym (ap fault (c .before .enum-told .given .1)) ∙ c .before .before .before .judge-lines .ensures)) (c .check-closing .ensures)
+returns-2 c = rw (← (sym (ap fault (c .before .enum-told .given .1)) ∙ c .before .before .before .judge-lines .ensures .0)) (c .check-closing .ensures)
 
 pub check-lines-spec : {M : Type 1} → statement M
 check-lines-spec =
     tie.close
     (tie.spec
+    (λ c κs. search needs)
+    (λ c κs. search needs)
+    (λ c κs. search needs)
     (λ c κs. search needs)
     (λ c. search needs)
     returns

@@ -1,82 +1,79 @@
--- `is_blocking` meets its contract. The loop keeps: where the clause at hand stands, and that the test over the clauses
--- left is the test over all. Assumes nothing.
+-- `is_blocking` meets its contract. The loop keeps: the clauses passed, 64 at a time, are opposed. Assumes nothing.
 use mathlib.Core.Path.{_≡_, refl, sym, ap, _∙_}
-use Prim.Native.Nat.{_-_, _≤_}
+use mathlib.Core.Logic.{_↔_}
+use mathlib.Core.Bool.{Bool, true, false, _||_}
+use mathlib.Core.List.{List}
+use Prim.Native.Nat.{ℕ, _+_, _-_, _%_, _^_, _≤_, _<_}
+use native.Mathlib.Decide.{decLt}
 use native.Mathlib.Omega.{arith}
-use Rattle.formula.proofs.SomeLaws.{all-fails, all-later, all-over}
-use Rattle.rule_file.specs.Words.{word-count, all-words}
-use Rattle.rule_file.specs.RuleFile.{clause-count, after-clause, clause-at, clause-start, clauses, clauses-from}
-use Rattle.rule_file.specs.Accepted.{Accepted}
-use Rattle.rule_file.proofs.WalkLaws.{start-zero, start-suc, elements-step, elements-over}
-use Rattle.rule_file.proofs.ClauseLaws.{clause-within}
+use lib.Dec.{leb}
+use lib.ListN.{length}
+use Rattle.formula.specs.Formula.{some-of}
+use Rattle.bit_set.specs.BitSet.{has, mask}
 use Rattle.resolution.specs.Resolution.{is-blocking}
-use Rattle.literals.proofs.LiteralLaws.{test-failed, test-passed}
+use Rattle.literals.specs.Occurrences.{Occurrences}
+use Rattle.literals.proofs.BlockingLaws.{Opposed, blocking-iff, opposes, block-iff}
 use Rattle.literals.proofs.blocking.is_blocking.Statement.{statement}
 use Rattle.literals.proofs.blocking.is_blocking.Tie as tie
 
+-- what the loop keeps, whatever list of literals has c for its set
+record Part (table : List ℕ) (count c passed : ℕ) : Type 0 where
+  aligned : passed % 64 ≡ 0
+  small : c < 2 ^ 64
+  each : (x : List ℕ) → c ≡ mask x → (h : ℕ) → h < passed → h < count → Opposed table x h
+
+-- the answer b for a formula of `count` clauses
+abbrev Answer : List ℕ → ℕ → ℕ → Bool → Type 0
+Answer table count c b = (φ : List (List ℕ)) (x : List ℕ) → Occurrences φ table → length φ ≡ count → c ≡ mask x → b ≡ is-blocking φ x
+
+-- 64 clauses at a time: r has those that are opposed, and of `seen` all past the last one
+module _ {table : List ℕ} {count c passed : ℕ} (p : Part table count c passed) (seen r : ℕ) (r< : r < 2 ^ 64)
+    (past : (h : ℕ) → h < 64 → has seen h ≡ leb (count - passed) h)
+    (is : (x : List ℕ) → c ≡ mask x → (h : ℕ) → has r h ≡ (has seen h || some-of (opposes table passed h) x)) where
+  block : (x : List ℕ) → c ≡ mask x → (r ≡ 2 ^ 64 - 1) ↔ ((h : ℕ) → h < 64 → passed + h < count → Opposed table x (passed + h))
+  block x e =
+      block-iff table x count passed r (p .aligned) r<
+      (λ h k. is x e h ∙ ap (_|| some-of (opposes table passed h) x) (past h k))
+
+  more : r ≡ 2 ^ 64 - 1 → Part table count c (passed + 64)
+  more all = record { aligned = omega (arith, p .aligned); small = p .small; each = λ x e h k l. go x e h k l (decLt h passed) }
+    where
+      go : (x : List ℕ) → c ≡ mask x → (h : ℕ) → h < passed + 64 → h < count → Dec (h < passed) → Opposed table x h
+      go x e h k l (yes d) = p .each x e h d l
+      go x e h k l (no d) = let f : passed + (h - passed) ≡ h = omega arith in rw f at (block x e .0 all (h - passed) (omega arith) (omega arith))
+
+  refused : (r ≡ 2 ^ 64 - 1 → ⊥) → Answer table count c false
+  refused n φ x are size e = go (is-blocking φ x) refl
+    where
+      go : (b : Bool) → is-blocking φ x ≡ b → false ≡ b
+      go true t = absurd (n (block x e .1 (λ h k l. blocking-iff φ x table are (rw e at (p .small)) .0 t (passed + h) (omega arith))))
+      go false t = refl
+
+over : {table : List ℕ} {count c passed : ℕ} → Part table count c passed → count ≤ passed → Answer table count c true
+over {table} p none φ x are size e =
+    sym (blocking-iff φ x table are (rw e at (p .small)) .1 (λ h k. p .each x e h (omega arith) (omega arith)))
+
 abbrev Inv-loop : tie.InvT-loop
-Inv-loop rule c i₀ left₀ i left =
-    Accepted rule ×
-    ((left ≤ clause-count rule) ×
-    ((i ≡ clause-start rule (clause-count rule - left)) ×
-    (is-blocking (clauses-from rule left i) (all-words c) ≡ is-blocking (clauses rule) (all-words c))))
+Inv-loop table clauses c passed₀ passed = Part table clauses c passed
 
 abbrev μ-loop : tie.MeasureT-loop
-μ-loop rule c i₀ left₀ i left = left
-
--- the clause at hand stands in the file
-within : (c : tie.In-loop Inv-loop μ-loop) → let b = c .before .before .before .before .args .rule .now in after-clause b (c .before .loop .i) ≤ word-count b
-within c = let (a, (h, (i, _))) = c .before .loop .inv in rw i (clause-within _ a _ (omega arith))
+μ-loop table clauses c passed₀ passed = clauses - passed
 
 loop-holds : tie.Need-loop-holds Inv-loop μ-loop
-loop-holds c =
-    let (a, h) = c .before .before .pre in
-    let m = ap (λ x. x .clauses) h in
-    (a, (omega arith, (rw m (sym (start-zero (after-clause _) 0) ∙ ap (clause-start _) (omega arith)), rw m)))
+loop-holds c = record { aligned = refl; small = c .fits .c .fits; each = λ x e h k l. absurd (omega arith) }
 
-word-requires : tie.Need-word-requires Inv-loop μ-loop
-word-requires c κs = omega (arith, within c)
-
-add-opposes : tie.Need-add-opposes Inv-loop μ-loop
-add-opposes c = omega (arith, within (c .before))
-
-opposes-requires : tie.Need-opposes-requires Inv-loop μ-loop
-opposes-requires c κs = omega (arith, within (c .before), c .word .ensures .0)
+opposed-requires : tie.Need-opposed-requires Inv-loop μ-loop
+opposed-requires c κs = omega (arith, c .before .before .loop .inv .aligned)
 
 returns : tie.Need-returns Inv-loop μ-loop
 returns c =
-    let w = c .before .before .word .ensures .0 in (
-      sym
-          (all-fails _ (elements-step (after-clause _) (clause-at _) _ _ (c .before .before .before .loop-test .taken))
-          (rw (← w) (test-failed (c .before .opposes .ensures) (c .if1 .taken)))) ∙
-          c .before .before .before .before .loop .inv .1 .1 .1,
-      (refl, refl),
-    )
-
-add-i : tie.Need-add-i Inv-loop μ-loop
-add-i c = omega (arith, within (c .before .before .before))
-
-add-i-2 : tie.Need-add-i-2 Inv-loop μ-loop
-add-i-2 c = omega (arith, within (c .before .before .before), c .before .before .word .ensures .0)
+    let here = c .before in
+    (refused (here .before .before .before .loop .inv) _ _ (here .opposed .ok) (here .before .from .ensures) (here .opposed .ensures) (c .if1 .taken), refl)
 
 loop-again : tie.Need-loop-again Inv-loop μ-loop
 loop-again c =
-    let w = c .before .before .word .ensures .0 in
-    let h = c .before .before .before .loop-test .taken in
-    let (a, (k, (i, e))) = c .before .before .before .before .loop .inv in (
-      a,
-      (
-        omega arith,
-        (
-          rw w (ap (after-clause _) i ∙ start-suc (after-clause _) 0 _ ∙ ap (clause-start _) (omega arith)),
-          rw w (all-later _ (elements-step (after-clause _) (clause-at _) _ _ h) (rw (← w) (test-passed (c .before .opposes .ensures) (c .if1 .left)))) ∙ e,
-        ),
-      ),
-    )
-
-returns-2 : tie.Need-returns-2 Inv-loop μ-loop
-returns-2 c =
-    (sym (all-over _ (elements-over (after-clause _) (clause-at _) _ _ (c .loop-test .left))) ∙ c .before .loop .inv .1 .1 .1, (refl, refl))
+    let here = c .before in
+    more (here .before .before .before .loop .inv) _ _ (here .opposed .ok) (here .before .from .ensures) (here .opposed .ensures) (c .if1 .left)
 
 pub is-blocking-spec : {M : Type 1} → statement M
 is-blocking-spec =
@@ -85,13 +82,11 @@ is-blocking-spec =
     Inv-loop
     μ-loop
     loop-holds
-    word-requires
-    add-opposes
-    opposes-requires
+    (λ c. omega arith)
+    (λ c κs. tt)
+    opposed-requires
     returns
-    add-i
-    add-i-2
     (λ c. omega arith)
     (λ c. omega arith)
     loop-again
-    returns-2)
+    (λ c. (over (c .before .loop .inv) (c .loop-test .left), refl)))

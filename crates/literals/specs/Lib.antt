@@ -1,0 +1,3 @@
+-- Tables over a rule file that S-resolution's tests read.
+pub mod Occurrences
+pub mod Denominators
