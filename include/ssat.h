@@ -15,8 +15,8 @@
  *     refusal          `buffer` is unchanged.
  *   out                four numbers, lent for writing; not null, aligned, and no part of the other buffers.
  *     answer           the numbers named below stand in `out` from index 0; the rest is set to 0.
- *     refusal          `out` is unchanged, except that a refusal which names a place puts it into out[0]: 5 to 7 the
- *                      number of a clause, 8 that of a variable, 15 to 20 that of a line, each counted from 0.
+ *     refusal          `out` is unchanged, except that a refusal which names a place puts it into out[0]: 5 to 7 and
+ *                      23 the number of a clause, 8 that of a variable, 15 to 20 that of a line, each counted from 0.
  *
  * Refusals of the rule file, by every function:
  *    1  length not a multiple of 4, under 16 or over 65,536 bytes
@@ -27,6 +27,7 @@
  *       at the prefix start; out[0] is the first such clause, or the number of clauses where only the end is wrong
  *    6  a literal out of range; out[0] is the first such clause
  *    7  a variable twice in one clause; out[0] is the first such clause
+ *   23  variables that do not rise from literal to literal of a clause; out[0] is the first such clause
  *    8  a weight over 65,535, or one weight 0 and the other not; out[0] is the first such variable
  *    9  the whole is over 2^60
  * Refusals of the limits and the level:
@@ -38,13 +39,13 @@
  *   14  the last word is not the word count, or more than 1,024 lines
  *   15  a line of neither kind, with more literals than there are variables or past the trailer's start, or lines that
  *       do not end there (then the line is the line count)
- *   16  in a line, a literal out of range or a variable twice
+ *   16  in a line, a literal out of range, a variable twice or variables that do not rise
  *   17  a kind 1 line such that some clause has no opposite of a literal of it
  *   18  a kind 2 line whose variable or parent does not exist, or whose parent is not earlier
- *   19  a kind 2 line whose literals are not those of its parents' resolvent
+ *   19  a kind 2 line whose literals are not the rising list of its parents' other literals
  *   20  a line with a wrong value
  *   21  the closing reference names nothing, or a clause or line with literals
- * Refusal of the derivation that is to be written, after 1 to 9:
+ * Refusal of the derivation that is to be written, after those of the rule file:
  *   22  it exceeds the buffer, 65,536 bytes or 1,024 lines
  * The first that applies is returned, in this order; 17 to 20 line by line.
  */
@@ -61,33 +62,33 @@ extern "C" {
 
 /* Reads a rule file.
  * out: number of variables, number of clauses, word where the prefix begins, whole.
- * Refusals: 1 to 9. */
+ * Refusals: 1 to 9, 23. */
 uint32_t ssat_read(const uint8_t *rule, size_t len, uint64_t out[4]);
 
 /* The value of the formula, out of the whole.
  * out: value, whole, 0, 0.
- * Refusals: 1 to 9. */
+ * Refusals: 1 to 9, 23. */
 uint32_t ssat_figure(const uint8_t *rule, size_t len, uint64_t out[4]);
 
 /* Compares the value with the limits lo and hi, both out of the whole.
  * out: 0 and the value where lo <= value <= hi; 1 and 0 where it is above hi; 2 and 0 where it is below lo; then 0, 0.
- * Refusals: 1 to 9, 10, 11. */
+ * Refusals: 1 to 9, 23, 10, 11. */
 uint32_t ssat_verdict(const uint8_t *rule, size_t len, uint64_t lo, uint64_t hi, uint64_t out[4]);
 
 /* Bounds on the value with only the first `level` variables set.
  * out: lower number, upper number, open weight, 0; all out of the whole.
- * Refusals: 1 to 9, 12. */
+ * Refusals: 1 to 9, 23, 12. */
 uint32_t ssat_cut(const uint8_t *rule, size_t len, uint64_t level, uint64_t out[4]);
 
 /* Checks a derivation over a rule file.
  * out: closing value, whole, 0, 0.
- * Refusals: 1 to 9 for the rule file, 13 to 21. */
+ * Refusals: 1 to 9 and 23 for the rule file, 13 to 21. */
 uint32_t ssat_check(const uint8_t *rule, size_t len, const uint8_t *derivation, size_t dlen, uint64_t out[4]);
 
 /* Writes a derivation over a rule file into `buffer`. ssat_check accepts it, and its closing value is the value of the
  * formula.
  * out: byte length, 0, 0, 0.
- * Refusals: 1 to 9, 22. */
+ * Refusals: 1 to 9, 23, 22. */
 uint32_t ssat_derive(const uint8_t *rule, size_t len, uint8_t *buffer, size_t capacity, uint64_t out[4]);
 
 #ifdef __cplusplus

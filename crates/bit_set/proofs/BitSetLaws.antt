@@ -1,7 +1,8 @@
--- Membership in a set made of bits: of the empty set, of a set with one number more, of the set of a list, with how
--- large that is; then a list one number at a time, as a loop takes it. The statuses of clauses by their masks are in
--- the crate node. Assumes nothing.
+-- Membership in a set made of bits: of the empty set, of a set with one number more, of the set of a list, with what it
+-- says of the list and how large it is; then a list one number at a time, as a loop takes it. The statuses of clauses
+-- by their masks are in the crate node. Assumes nothing.
 use mathlib.Core.Path.{_≡_, refl, sym, ap, _∙_}
+use mathlib.Core.Logic.{_↔_, Iff·trans, Iff·symm}
 use mathlib.Core.Bool.{Bool, true, false, not, _||_, or-false, or-assoc}
 use mathlib.Core.List.{List, [], _∷_, _++_, List·Memᴰ·head, List·Memᴰ·tail}
 use Prim.Native.Nat.{ℕ, _*_, _%_, _^_, _<_}
@@ -12,8 +13,10 @@ use lib.Pow.{pow-pos, shl-exact, pow-lt}
 use lib.Bits.{bitAnd, bitOr, and-self, and-shifted, and-comm, or-lt}
 use lib.Dec.{eqb}
 use borrow.Author.Tests.{eq-eqb, ne-eqb}
-use Rattle.formula.specs.Formula.{some-of, member}
+use Rattle.formula.specs.Formula.{some-of, _∈_, member, Ascending}
 use Rattle.formula.specs.Nodes.{Every}
+use Rattle.formula.proofs.Membership.{member-iff}
+use Rattle.formula.proofs.OrderLaws.{ascending-same}
 use Rattle.bit_set.specs.BitSet.{has, including, mask-onto, mask}
 use Rattle.bit_set.proofs.BitLaws.{and-or, le-or-l}
 
@@ -71,6 +74,17 @@ has-onto s y (x ∷ xs) =
 
 pub has-mask : (y : ℕ) (xs : List ℕ) → has (mask-onto 0 xs) y ≡ member y xs
 has-mask y xs = has-onto 0 y xs ∙ ap (_|| member y xs) (has-none y)
+
+-- a number is in a list where it is in its set
+pub has-iff : (l : ℕ) (c : List ℕ) → (has (mask c) l ≡ true) ↔ (l ∈ c)
+has-iff l c = rw (has-mask l c) (member-iff l c)
+
+-- lists whose numbers ascend, and so clauses whose variables rise, say the same as their sets
+pub same-mask-iff : {c d : List ℕ} → Ascending c → Ascending d → (mask c ≡ mask d) ↔ (c ≡ d)
+same-mask-iff {c} {d} a b = (
+  λ e. ascending-same a b (λ l. Iff·trans (Iff·symm (has-iff l c)) (rw e (has-iff l d))),
+  ap mask,
+)
 
 -- a list of numbers under n has a set of n digits
 onto-small : (n s : ℕ) (xs : List ℕ) → s < 2 ^ n → Every (λ x. x < n) xs → mask-onto s xs < 2 ^ n

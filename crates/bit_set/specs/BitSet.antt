@@ -1,7 +1,7 @@
 -- A set of numbers as one number: x is in it where the bit 2^x is. What the code alone needs; assumes nothing.
-use mathlib.Core.Bool.{Bool, not}
-use mathlib.Core.List.{List, [], _∷_}
-use Prim.Native.Nat.{ℕ, _^_}
+use mathlib.Core.Bool.{Bool, not, cond}
+use mathlib.Core.List.{List, [], _∷_, _++_}
+use Prim.Native.Nat.{ℕ, zero, suc, _^_}
 use lib.Bits.{bitAnd, bitOr}
 use lib.Dec.{eqb}
 
@@ -19,3 +19,12 @@ mask-onto s (x ∷ xs) = mask-onto (including s x) xs
 -- the set of the numbers of a list
 abbrev pub mask : List ℕ → ℕ
 mask = mask-onto 0
+
+-- the numbers under k that pass the test, rising
+unfoldable pub below : ℕ → (ℕ → Bool) → List ℕ
+below zero f = []
+below (suc k) f = below k f ++ cond (f k) (k ∷ []) []
+
+-- the numbers of a set of 64 bits, rising
+abbrev pub members : ℕ → List ℕ
+members s = below 64 (has s)

@@ -10,13 +10,14 @@ use native.Mathlib.Omega.{arith}
 use lib.ListN.{length}
 use lib.Dec.{leb, eqb}
 use borrow.Author.Tests.{eq-eqb, ne-eqb, leb-true}
-use Rattle.formula.specs.Formula.{some-of, out-of-range, repeats}
-use Rattle.formula.proofs.SomeLaws.{or-false, none-second}
+use Rattle.formula.specs.Formula.{some-of, out-of-range, repeats, unordered, ill-formed}
+use Rattle.formula.proofs.SomeLaws.{or-false, none-implied}
+use Rattle.formula.proofs.OrderLaws.{ordered-no-repeats}
+use Rattle.formula.proofs.Membership.{and-iff}
 use Rattle.rule_file.specs.Words.{word, word-count, all-words, part}
 use Rattle.rule_file.proofs.WalkLaws.{elements-length, element-is, none-at, walked-at}
 use Rattle.rule_file.proofs.WordsLaws.{part-words}
 use Rattle.resolution.specs.Resolution.{Line, blocking, resolvent, derived, line-at}
-use Rattle.resolution.proofs.Membership.{and-iff}
 use Rattle.derivation.specs.DerivationFile.{trailer-start, line-count, kind, size, value-start, clause-of, line-of, after-line, lines}
 use Rattle.derivation.specs.Check.{line-fits, walk-lines, line-fails}
 use Rattle.derivation.specs.WellFormed.{WellFormed}
@@ -95,17 +96,21 @@ well-walked {n} w = record { variables = n; walked = w .walked }
 -- what 16 leaves true of each line's literals, and of all
 module _ (n : ℕ) (d : List ℕ) (w : WellFormed n d) where
   pub lines-no-repeats : some-of (λ l. repeats (derived l .literals)) (lines d) ≡ false
-  unfolding line-fails
-  lines-no-repeats = none-second (λ l. out-of-range n (derived l .literals)) (λ l. repeats (derived l .literals)) (lines d) (w .no-fault)
+  unfolding ill-formed
+  lines-no-repeats =
+      none-implied (line-fails n) (λ l. repeats (derived l .literals))
+      (λ l e. ordered-no-repeats (derived l .literals) (or-false (out-of-range n (derived l .literals)) (unordered (derived l .literals)) e .1))
+      (lines d) (w .no-fault)
 
   module _ (k : ℕ) (h : k < line-count d) where
-    no-fault-at : line-fails n (line-of d (line-start d k)) ≡ false
-    no-fault-at = none-at (after-line d) (line-of d) (line-fails n) (line-count d) 0 k h (w .no-fault)
+    no-fault-at : (out-of-range n (clause-of d (line-start d k) .literals) ≡ false) × (unordered (clause-of d (line-start d k) .literals) ≡ false)
+    unfolding ill-formed
+    no-fault-at =
+        or-false _ _
+        (rw (derived-is d (line-start d k)) at (none-at (after-line d) (line-of d) (line-fails n) (line-count d) 0 k h (w .no-fault)))
 
     pub line-in-range : out-of-range n (clause-of d (line-start d k) .literals) ≡ false
-    unfolding line-fails
-    line-in-range = or-false (out-of-range n (clause-of d (line-start d k) .literals)) _ (rw (derived-is d (line-start d k)) at no-fault-at) .0
+    line-in-range = no-fault-at .0
 
-    pub line-no-repeats : repeats (clause-of d (line-start d k) .literals) ≡ false
-    unfolding line-fails
-    line-no-repeats = or-false (out-of-range n (clause-of d (line-start d k) .literals)) _ (rw (derived-is d (line-start d k)) at no-fault-at) .1
+    pub line-ordered : unordered (clause-of d (line-start d k) .literals) ≡ false
+    line-ordered = no-fault-at .1

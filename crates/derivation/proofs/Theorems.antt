@@ -7,7 +7,8 @@ use mathlib.Core.List.{List}
 use mathlib.Core.Option.{Option, none, some}
 use Prim.Native.Nat.{ℕ, _<_}
 use lib.ListN.{length}
-use Rattle.formula.specs.Formula.{repeats}
+use Rattle.formula.specs.Formula.{unordered}
+use Rattle.formula.proofs.Membership.{none-of}
 use Rattle.rule_file.specs.Limits.{derivation-trailer}
 use Rattle.rule_file.specs.RuleFile.{variable-count, clauses, prefix, whole}
 use Rattle.rule_file.specs.Answer.{answer}
@@ -15,23 +16,23 @@ use Rattle.rule_file.specs.Reader.{read-file}
 use Rattle.rule_file.specs.Accepted.{Accepted}
 use Rattle.rule_file.proofs.WalkLaws.{first-none, none-first-place}
 use Rattle.rule_file.proofs.WordsLaws.{right-length}
+use Rattle.rule_file.proofs.ReaderLaws.{ordered-once}
 use Rattle.rule_file.proofs.AcceptedLaws.{passed, passed-at, passed-then, answered, accepted-answers}
 use Rattle.resolution.specs.Resolution.{line, is-blocking, closing-value, judge-lines}
 use Rattle.resolution.specs.Claims.{Implied, Sound}
-use Rattle.resolution.proofs.Membership.{none-of}
 use Rattle.resolution.proofs.Check.{judge-lines-iff, closing-iff}
 use Rattle.resolution.proofs.Implied.{blocking-iff-implied}
-use Rattle.resolution.proofs.Derivations.{no-repeats-non-tautological, accepted-sound, closing-is-figure}
+use Rattle.resolution.proofs.Derivations.{ordered-non-tautological, accepted-sound, closing-is-figure}
 use Rattle.derivation.specs.DerivationFile.{line-count, closing-reference, lines}
 use Rattle.derivation.specs.Check.{line-fails, check-from-21, check-from-17, check-from-15, check-from-13, check-file}
 use Rattle.derivation.specs.WellFormed.{WellFormed}
 use Rattle.derivation.specs.Derives.{Derives, line-clause, closing-figure}
 use Rattle.derivation.specs.declared.Closing.{Closing}
-use Rattle.derivation.proofs.LineLaws.{lines-length, derived-at, lines-no-repeats, line-in-range, line-no-repeats}
+use Rattle.derivation.proofs.LineLaws.{lines-length, derived-at, lines-no-repeats, line-in-range, line-ordered}
 use Rattle.derivation.proofs.CheckLaws.{check-14, passed-line, passed-closing}
 
 module _ (b d : List ℕ) (c : Closing) where
-  -- what an answer has passed: 1 to 9, 13 to 16, 17 to 21
+  -- what an answer has passed: the reader's checks, 13 to 16, 17 to 21
   rule-answered : check-file b d ≡ answer c → Accepted b × (check-from-13 b d ≡ answer c)
   unfolding check-file
   rule-answered e = let (h, read, rest) = passed-then (read-file b) (λ _. check-from-13 b d) c e in (answered b h read .0, rest)
@@ -101,7 +102,7 @@ module _ (b d : List ℕ) (c : Closing) where
   accepted-is-figure e =
       let v = accepted-derives e in
       let (judged, closes, out) = lines-answered (structure-answered (rule-answered e .1) .1) in
-      let is = closing-is-figure (clauses b) (prefix b) (lines d) (v .accepted .no-repeats) (lines-no-repeats (variable-count b) d (v .well-formed)) (closing-reference d) (c .value) judged closes in
+      let is = closing-is-figure (clauses b) (prefix b) (lines d) (ordered-once (clauses b) (v .accepted .ordered)) (lines-no-repeats (variable-count b) d (v .well-formed)) (closing-reference d) (c .value) judged closes in
       λ j. record { value = sym is j; whole = out j }
 
   -- 004's Lemma 3.1 for each line
@@ -110,9 +111,9 @@ module _ (b d : List ℕ) (c : Closing) where
       let v = accepted-derives e in
       let (judged, closes, out) = lines-answered (structure-answered (rule-answered e .1) .1) in
       let within : k < length (lines d) = rw (lines-length d) h in
-      accepted-sound (clauses b) (prefix b) (lines d) (v .accepted .no-repeats) (lines-no-repeats (variable-count b) d (v .well-formed)) judged (line k within)
+      accepted-sound (clauses b) (prefix b) (lines d) (ordered-once (clauses b) (v .accepted .ordered)) (lines-no-repeats (variable-count b) d (v .well-formed)) judged (line k within)
 
--- 17's test of a line is the premise that 004 states for R.2. That the two are the same rests on checks 7 and 16
+-- 17's test of a line is the premise that 004 states for R.2. That the two are the same rests on checks 23 and 16
 pub line-blocking-iff-implied :
     (b d : List ℕ) → Accepted b → WellFormed (variable-count b) d → (k : ℕ) → k < line-count d
     → (is-blocking (clauses b) (line-clause d k .literals) ≡ true) ↔ Implied (variable-count b) (clauses b) (line-clause d k .literals)
@@ -120,5 +121,5 @@ line-blocking-iff-implied b d a w k h =
     let is = sym (ap (λ c. c .literals) (derived-at d k h)) in
     blocking-iff-implied (variable-count b) (clauses b) (line-clause d k .literals)
     (rw is at (line-in-range (variable-count b) d w k h))
-    (no-repeats-non-tautological _ (rw is at (line-no-repeats (variable-count b) d w k h)))
-    (λ x m. no-repeats-non-tautological x (none-of repeats (a .no-repeats) m))
+    (ordered-non-tautological _ (rw is at (line-ordered (variable-count b) d w k h)))
+    (λ x m. ordered-non-tautological x (none-of unordered (a .ordered) m))

@@ -5,7 +5,7 @@ use mathlib.Core.List.{List}
 use mathlib.Core.Option.{Option, none, some}
 use Prim.Native.Nat.{ℕ, _+_}
 use lib.Dec.{leb, ltb, eqb}
-use Rattle.formula.specs.Formula.{out-of-range, repeats}
+use Rattle.formula.specs.Formula.{ill-formed}
 use Rattle.rule_file.specs.Limits.{derivation-trailer, max-lines}
 use Rattle.rule_file.specs.Walk.{first, walk}
 use Rattle.rule_file.specs.Words.{word-count, wrong-length, stated-count}
@@ -34,9 +34,9 @@ line-fits d n end i =
 abbrev pub walk-lines : List ℕ → ℕ → ℕ → ℕ → ℕ → Option ℕ
 walk-lines d n end = walk (after-line d) (line-fits d n end) end
 
--- 16: a literal of 2n or more or a variable twice
-unfoldable pub line-fails : ℕ → Line → Bool
-line-fails n l = out-of-range n (derived l .literals) || repeats (derived l .literals)
+-- 16: a literal of 2n or more, or variables that do not rise, as where one stands twice
+abbrev pub line-fails : ℕ → Line → Bool
+line-fails n l = ill-formed n (derived l .literals)
 
 -- refuses with the number and the line that are found, else goes on
 abbrev pub refuse-line : {A : Type 0} → Option (ℕ × ℕ) → Answer A → Answer A
@@ -64,7 +64,7 @@ check-from-15 b d =
 unfoldable pub check-from-13 : List ℕ → List ℕ → Answer Closing
 check-from-13 b d = refuse-if (wrong-length derivation-trailer d) 13 (refuse-if (wrong-counts d) 14 (check-from-15 b d))
 
--- the check's answer to the rule file b and the derivation d: the rule file's refusals 1 to 9 first
+-- the check's answer to the rule file b and the derivation d: the reader's refusals first
 unfoldable pub check-file : List ℕ → List ℕ → Answer Closing
 check-file b d = and-then (read-file b) (λ _. check-from-13 b d)
 

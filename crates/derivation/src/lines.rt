@@ -3,8 +3,7 @@ use crate::starts::REFERENCES;
 use crate::starts::keep;
 use crate::starts::start_at;
 use rule_file::Found;
-use rule_file::clauses::out_of_range;
-use rule_file::clauses::repeats;
+use rule_file::clauses::ill_formed;
 use rule_file::words::word;
 ghost use mathlib.Core.Path.{_≡_};
 ghost use mathlib.Core.Bool.{_||_};
@@ -12,7 +11,7 @@ ghost use mathlib.Core.Option.{none};
 ghost use Prim.Native.Nat.{_+_, _^_, _≤_, _<_};
 ghost use lib.Dec.{eqb};
 ghost use lib.ListN.{length};
-ghost use Rattle.rule_file.specs.Limits.{max-variables, max-lines};
+ghost use Rattle.rule_file.specs.Limits.{max-lines};
 ghost use Rattle.rule_file.specs.Walk.{first};
 ghost use Rattle.rule_file.specs.Words.{word-count};
 ghost use Rattle.rule_file.specs.Checks.{place};
@@ -94,24 +93,18 @@ pub(crate) fn walk_fault(
 // Check 16 of one line.
 fn line_fails(derivation: &[u8], n: usize, i: usize) -> bool
     requires { ⌜ after-line (now derivation) i ≤ word-count (now derivation) ⌝ }
-    requires { ⌜ n ≤ max-variables ⌝ }
     ensures { λ r. ⌜ r ≡ line-fails n (line-of (now (derivation .entry)) i) ⌝ }
 {
-    let k = word(derivation, i + 1);
-    if out_of_range(derivation, i + 2, k, n) {
-        return true;
-    }
-    repeats(derivation, i + 2, k, n)
+    ill_formed(derivation, i + 2, word(derivation, i + 1), n)
 }
 
-// Check 16: the first line with a literal of 2n or more or with a variable twice.
+// Check 16: the first line with a literal of 2n or more or with variables that do not rise.
 pub(crate) fn literal_fault(
     derivation: &[u8],
     n: usize,
     count: usize,
     starts: &[u16; REFERENCES],
 ) -> Found
-    requires { ⌜ n ≤ max-variables ⌝ }
     requires { ⌜ walk-lines (now derivation) n (trailer-start (now derivation)) count 0 ≡ none ⌝ }
     requires { ⌜ count ≤ max-lines ⌝ }
     requires { ⌜ LineStarts (now derivation) count (now starts) ⌝ }

@@ -1,5 +1,8 @@
--- The laws of the meaning of formulas: tests over lists, statuses, formulas, nodes, the tree of assignments.
+-- The laws of the meaning of formulas: tests over lists, membership, order inside a clause, statuses, formulas, nodes,
+-- the tree of assignments.
 pub mod SomeLaws
+pub mod Membership
+pub mod OrderLaws
 pub mod StatusLaws
 pub mod FormulaLaws
 pub mod NodesLaws

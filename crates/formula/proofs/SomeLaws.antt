@@ -1,6 +1,6 @@
 -- The answers of tests; then tests over a list. First as a loop takes them, one element at a time, where ys is what is
 -- left: some-of, repeats. Then a test that no element passes, by the elements' places, and of an appended list. Not
--- here: a test as a statement on the elements (resolution, Membership). Assumes nothing.
+-- here: a test as a statement on the elements (Membership). Assumes nothing.
 use Prim.Native.Nat.{ℕ, suc, _<_}
 use native.Mathlib.Omega.{arith}
 use mathlib.Core.Path.{_≡_, refl, ap, sym, _∙_}
@@ -71,13 +71,11 @@ unfolding all-of
 all-by-places f d [] h = refl
 all-by-places f d (x ∷ xs) h = rw (h 0 (omega arith)) (all-by-places f d xs (λ k l. h (suc k) (omega arith)))
 
--- where neither test passes anywhere, the second does not
-pub none-second : {A : Type 0} (f g : A → Bool) (xs : List A) → some-of (λ x. f x || g x) xs ≡ false → some-of g xs ≡ false
+-- a test that fails wherever one that no element passes does
+pub none-implied : {A : Type 0} (f g : A → Bool) → ((x : A) → f x ≡ false → g x ≡ false) → (xs : List A) → some-of f xs ≡ false → some-of g xs ≡ false
 unfolding some-of
-none-second f g [] e = refl
-none-second f g (x ∷ xs) e =
-    let (e₁, e₂) = or-false (f x || g x) (some-of (λ x. f x || g x) xs) e in
-    rw (or-false (f x) (g x) e₁ .1) (none-second f g xs e₂)
+none-implied f g h [] e = refl
+none-implied f g h (x ∷ xs) e = rw (h x (none-first f x xs e)) (none-implied f g h xs (none-rest f x xs e))
 
 pub some-of-append : {A : Type 0} (f : A → Bool) (xs ys : List A) → some-of f (xs ++ ys) ≡ (some-of f xs || some-of f ys)
 unfolding some-of

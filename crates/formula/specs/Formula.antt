@@ -2,9 +2,9 @@
 -- document 01's condition, by its number in the prefix. A literal is a number: 2v is variable v and 2v + 1 its
 -- opposite. A clause is a list of literals, a formula a list of clauses. An assignment lists the values of variables 0,
 -- 1, .. in prefix order, 1 for true and 0 for false. A variable past its end is unset.
-use Prim.Native.Nat.{ℕ, _+_, _-_, _*_, _/_, _%_}
+use Prim.Native.Nat.{ℕ, _+_, _-_, _*_, _/_, _%_, _<_}
 use mathlib.Core.Bool.{Bool, true, false, cond, _&&_, _||_}
-use mathlib.Core.List.{List, [], _∷_}
+use mathlib.Core.List.{List, [], _∷_, List·Memᴰ}
 use lib.ListN.{length, getD}
 use lib.Dec.{leb, ltb, eqb}
 use Rattle.formula.specs.declared.Status.{Status}
@@ -42,7 +42,11 @@ unfoldable pub all-of : {A : Type 0} → (A → Bool) → List A → Bool
 all-of f [] = true
 all-of f (x ∷ xs) = f x && all-of f xs
 
--- whether x stands in the list
+-- x stands in the list, as a statement and as a test
+infix 50 _∈_
+abbrev pub _∈_ : {A : Type 0} → A → List A → Type 0
+x ∈ xs = List·Memᴰ x xs
+
 abbrev pub member : ℕ → List ℕ → Bool
 member x = some-of (eqb x)
 
@@ -58,3 +62,35 @@ out-of-range n = some-of (leb (2 * n))
 unfoldable pub repeats : List ℕ → Bool
 repeats [] = false
 repeats (l ∷ ls) = some-of (is-of (variable l)) ls || repeats ls
+
+-- whether the variables do not rise from literal to literal: a later literal is of the same variable or of one before.
+-- So it is where a variable stands twice
+unfoldable pub unordered : List ℕ → Bool
+unordered [] = false
+unordered (l ∷ ls) = some-of (λ k. leb (variable k) (variable l)) ls || unordered ls
+
+-- whether the clause has a literal of 2n or more, or its variables do not rise
+unfoldable pub ill-formed : ℕ → List ℕ → Bool
+ill-formed n c = out-of-range n c || unordered c
+
+-- a rising list with l in its place, where it stands once
+unfoldable pub insert-once : ℕ → List ℕ → List ℕ
+insert-once l [] = l ∷ []
+insert-once l (k ∷ ks) = cond (ltb l k) (l ∷ k ∷ ks) (cond (eqb l k) (k ∷ ks) (k ∷ insert-once l ks))
+
+-- the literals of a clause, rising, each once
+unfoldable pub rising : List ℕ → List ℕ
+rising [] = []
+rising (l ∷ ls) = insert-once l (rising ls)
+
+-- each number is under all that come after it, as in a rising list
+pub data Ascending : List ℕ → Type 0 where
+  empty : Ascending []
+  next : {x : ℕ} {xs : List ℕ} → ((y : ℕ) → y ∈ xs → x < y) → Ascending xs → Ascending (x ∷ xs)
+
+-- whether two clauses have the same literals in the same order
+unfoldable pub equal : List ℕ → List ℕ → Bool
+equal [] [] = true
+equal [] (k ∷ ks) = false
+equal (l ∷ ls) [] = false
+equal (l ∷ ls) (k ∷ ks) = eqb l k && equal ls ks

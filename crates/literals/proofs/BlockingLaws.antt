@@ -11,16 +11,16 @@ use native.Mathlib.Omega.{arith}
 use lib.Dec.{leb}
 use lib.ListN.{length, getD}
 use borrow.Author.Tests.{le-leb, lt-leb}
-use Rattle.formula.specs.Formula.{opposite, some-of, member}
+use Rattle.formula.specs.Formula.{opposite, some-of, member, _∈_}
 use Rattle.formula.proofs.SomeLaws.{same-truth, all-by-places}
+use Rattle.formula.proofs.Membership.{all-of-iff, some-of-iff, getD-in}
 use Rattle.bit_set.specs.BitSet.{has, mask}
+use Rattle.bit_set.proofs.BitSetLaws.{has-iff}
 use Rattle.bit_set.proofs.DigitLaws.{all-lowest}
 use Rattle.bit_set.proofs.PartLaws.{has-within, has-from}
-use Rattle.resolution.specs.Resolution.{_∈_, is-blocking}
-use Rattle.resolution.proofs.Membership.{all-of-iff, some-of-iff, getD-in}
+use Rattle.resolution.specs.Resolution.{is-blocking}
 use Rattle.resolution.proofs.Levels.{opposite-is}
 use Rattle.literals.specs.Occurrences.{occurs, Occurrences}
-use Rattle.literals.proofs.SetLaws.{has-iff}
 
 -- what passes a test in one list is in the other, and passes its test
 some-goes : (f g : ℕ → Bool) (x y : List ℕ) → ((l : ℕ) → l ∈ x → f l ≡ true → (l ∈ y) × (g l ≡ true)) → some-of f x ≡ true → some-of g y ≡ true

@@ -12,9 +12,10 @@ use lib.ListN.{length, drop-of-length-le}
 use lib.Dec.{eqb, ltb, leb}
 use borrow.Author.Tests.{eqb-true, eqb-false, eq-eqb, ltb-true, lt-ltb, leb-true, le-leb}
 use Rattle.formula.specs.Quantifier.{Quantifier}
+use Rattle.formula.proofs.OrderLaws.{equal-iff}
+use Rattle.formula.proofs.Membership.{and-iff, all-of-iff, some-of-iff, member-iff}
 use Rattle.resolution.specs.Resolution.{Annotated, Blocking, Resolves, Resolvent, Line, blocking, resolvent, derived, original-clause, line-at, Names, clause, line, Follows, by-R2, by-R3}
 use Rattle.resolution.specs.Resolution.{is-resolvent, some-if, lookup, require, judge-resolvent, judge, first-refusal, judge-from, judge-lines, empty-value, closing-value}
-use Rattle.resolution.proofs.Membership.{and-iff, all-of-iff, some-of-iff, member-iff, remainder-iff}
 
 require-iff : (b : Bool) (k : ℕ) (rest : Option ℕ) → (require b k rest ≡ none) ↔ ((b ≡ true) × (rest ≡ none))
 unfolding require
@@ -59,16 +60,16 @@ module _ (φ : List (List ℕ)) (lines : List Line) (k : ℕ) where
       let (e, d) : ((2 * i + 1) % 2 ≡ 1) × ((2 * i + 1) / 2 ≡ i) = omega arith in rw (e, d, lt-ltb i k h)
 
 -- the tests, as statements
-ruleset reflected = (require-iff, and-iff, all-of-iff, member-iff, some-of-iff, ltb-iff, leb-iff, eqb-iff, remainder-iff)
+ruleset reflected = (require-iff, and-iff, all-of-iff, member-iff, some-of-iff, ltb-iff, leb-iff, eqb-iff, equal-iff)
 
 pub resolves-iff : (v : ℕ) (s t c : List ℕ) → (is-resolvent v s t c ≡ true) ↔ Resolves v s t c
 unfolding is-resolvent
 resolves-iff v s t c =
     simp
     reflected (
-      λ (((((in-true, in-false), last-true), last-false), from), into).
-          record { true-side = in-true; false-side = in-false; true-last = last-true; false-last = last-false; others = λ l. (from l, into l) },
-      λ r. (((((r .true-side, r .false-side), r .true-last), r .false-last), λ l. r .others l .0), λ l. r .others l .1),
+      λ ((((in-true, in-false), last-true), last-false), others).
+          record { true-side = in-true; false-side = in-false; true-last = last-true; false-last = last-false; others = others },
+      λ r. ((((r .true-side, r .false-side), r .true-last), r .false-last), r .others),
     )
 
 resolvent-iff : (qs : List Quantifier) (v : ℕ) (s t c : Annotated) → (judge-resolvent qs v (some s) (some t) c ≡ none) ↔ Resolvent qs v s t c

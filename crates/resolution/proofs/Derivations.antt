@@ -9,13 +9,14 @@ use mathlib.Core.List.{List, [], _∷_, List·Memᴰ·head, List·Memᴰ·tail}
 use mathlib.Core.Option.{none, some}
 use lib.ListN.{length}
 use borrow.Author.Tests.{eqb-false}
-use Rattle.formula.specs.Formula.{variable, some-of, is-of, repeats}
+use Rattle.formula.specs.Formula.{variable, some-of, is-of, repeats, unordered, _∈_}
 use Rattle.formula.specs.Quantifier.{Quantifier}
 use Rattle.formula.proofs.SomeLaws.{or-false}
-use Rattle.resolution.specs.Resolution.{_∈_, Annotated, NonTautological, Derivable, R1, R2, R3, Line, derived, line-at, Names, clause, line}
+use Rattle.formula.proofs.OrderLaws.{ordered-no-repeats}
+use Rattle.formula.proofs.Membership.{none-of, getD-in}
+use Rattle.resolution.specs.Resolution.{Annotated, NonTautological, Derivable, R1, R2, R3, Line, derived, line-at, Names, clause, line}
 use Rattle.resolution.specs.Resolution.{Follows, by-R2, by-R3, lookup, judge, judge-lines}
 use Rattle.resolution.specs.Claims.{Sound, ClosesWithFigure}
-use Rattle.resolution.proofs.Membership.{none-of, getD-in}
 use Rattle.resolution.proofs.Levels.{opposite-is}
 use Rattle.resolution.proofs.Check.{lookup-names, judge-iff, judge-lines-iff, closing-iff}
 use Rattle.resolution.proofs.Soundness.{derivable-sound, derivable-empty}
@@ -34,8 +35,12 @@ one-of-a-variable e (List·Memᴰ·head {x = x} {xs = xs} p) (List·Memᴰ·tail
 one-of-a-variable e (List·Memᴰ·tail {x = x} {xs = xs} m) (List·Memᴰ·head q) v = absurd (first-alone x xs e m (ap variable (sym q) ∙ sym v))
 one-of-a-variable e (List·Memᴰ·tail {x = x} {xs = xs} m) (List·Memᴰ·tail n) v = one-of-a-variable (repeats-parts x xs e .1) m n v
 
-pub no-repeats-non-tautological : (c : List ℕ) → repeats c ≡ false → NonTautological c
+no-repeats-non-tautological : (c : List ℕ) → repeats c ≡ false → NonTautological c
 no-repeats-non-tautological c e l m n = let (same, other) = opposite-is l in let is = one-of-a-variable e m n (sym same) in omega arith
+
+-- so where its variables rise
+pub ordered-non-tautological : (c : List ℕ) → unordered c ≡ false → NonTautological c
+ordered-non-tautological c e = no-repeats-non-tautological c (ordered-no-repeats c e)
 
 module _ (φ : List (List ℕ)) (qs : List Quantifier) (lines : List Line)
     (φ-no-repeats : some-of repeats φ ≡ false) (lines-no-repeats : some-of (λ l. repeats (derived l .literals)) lines ≡ false) where

@@ -12,12 +12,12 @@ use mathlib.Core.List.{List, [], _∷_, _++_, append-nil, List·Memᴰ·head, Li
 use lib.ListN.{length, getD}
 use borrow.Author.Tests.{eqb-true, eq-eqb}
 use Rattle.formula.specs.declared.Status.the-variants.{Falsified}
-use Rattle.formula.specs.Formula.{variable, opposite, is-of, clause-status, out-of-range}
+use Rattle.formula.specs.Formula.{variable, opposite, is-of, clause-status, out-of-range, _∈_}
 use Rattle.formula.specs.Nodes.{TrueLiteral, FalseLiteral, Every}
 use Rattle.formula.proofs.NodesLaws.{clause-is-falsified, satisfied-iff-met}
-use Rattle.resolution.specs.Resolution.{_∈_, NonTautological, is-blocking}
+use Rattle.formula.proofs.Membership.{all-of-iff, some-of-iff, in-range-iff, member-iff}
+use Rattle.resolution.specs.Resolution.{NonTautological, is-blocking}
 use Rattle.resolution.specs.Claims.{Implied}
-use Rattle.resolution.proofs.Membership.{all-of-iff, some-of-iff, in-range-iff, member-iff}
 use Rattle.resolution.proofs.Levels.{opposite-is}
 use Rattle.resolution.proofs.Soundness.{opposed-satisfied}
 
@@ -109,6 +109,6 @@ module _ (n : ℕ) (φ : List (List ℕ)) (c : List ℕ) (in-range : out-of-rang
           (λ k-in-d. absurd (differs (same-sign (φ-non-taut d m) in-d k-in-d same)))
           (List·Memᴰ·append-cases c of)
 
-  -- refusals 7 and 16 give what is assumed (no-repeats-non-tautological). The literals of φ may be of any variables
+  -- refusals 23 and 16 give what is assumed (ordered-non-tautological). The literals of φ may be of any variables
   pub blocking-iff-implied : (is-blocking φ c ≡ true) ↔ Implied n φ c
   blocking-iff-implied = simp (all-of-iff, member-iff, some-of-iff) (λ opposed p _ _ f. opposed-satisfied φ c p opposed f, implied-opposed)

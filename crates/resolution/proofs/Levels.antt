@@ -10,10 +10,11 @@ use lib.Seq.{drop-append-le, length-take-le}
 use lib.Arith.{lt-of-le-ne}
 use lib.Dec.{eqb}
 use borrow.Author.Tests.{eqb-true, eqb-false}
-use Rattle.formula.specs.Formula.{variable, opposite, out-of-range}
+use Rattle.formula.specs.Formula.{variable, opposite, out-of-range, _∈_}
 use Rattle.formula.specs.Quantifier.{Quantifier}
-use Rattle.resolution.specs.Resolution.{level, _∈_, NonTautological, Resolves}
-use Rattle.resolution.proofs.Membership.{in-range-iff}
+use Rattle.formula.proofs.Membership.{in-range-iff}
+use Rattle.resolution.specs.Resolution.{level, NonTautological, Resolves}
+use Rattle.resolution.proofs.Others.{resolves-others}
 
 -- the opposite of k has its variable and the other sign
 pub opposite-is : (k : ℕ) → (variable (opposite k) ≡ variable k) × (opposite k % 2 + k % 2 ≡ 1)
@@ -49,10 +50,10 @@ pub record Parent (v k : ℕ) (s c : List ℕ) : Type 0 where
   pub others : (l : ℕ) → (l ∈ s) × (l ≢ k) → l ∈ c
 
 pub true-parent : {v : ℕ} {s t c : List ℕ} → Resolves v s t c → Parent v (2 * v + 1) s c
-true-parent r = record { holds = r .true-side; of = omega arith; last = r .true-last; others = λ l h. r .others l .1 (inl h) }
+true-parent r = record { holds = r .true-side; of = omega arith; last = r .true-last; others = λ l h. resolves-others r l .1 (inl h) }
 
 pub false-parent : {v : ℕ} {s t c : List ℕ} → Resolves v s t c → Parent v (2 * v) t c
-false-parent r = record { holds = r .false-side; of = omega arith; last = r .false-last; others = λ l h. r .others l .1 (inr h) }
+false-parent r = record { holds = r .false-side; of = omega arith; last = r .false-last; others = λ l h. resolves-others r l .1 (inr h) }
 
 pub parent-level : {v k : ℕ} {s c : List ℕ} → Parent v k s c → level s ≡ suc v
 parent-level {v} {s} r = omega (arith, r .of, level-above (r .holds), level-least (suc v) s (λ l m. omega (arith, r .last l m)))
@@ -63,7 +64,7 @@ others-before {k} r non-taut l (m, n) =
 
 pub resolvent-level : {v : ℕ} {s t c : List ℕ} → Resolves v s t c → NonTautological s → NonTautological t → level c ≤ v
 resolvent-level {v} {c} r s-non-taut t-non-taut =
-    level-least v c (λ l m. ⊎-elim (others-before (true-parent r) s-non-taut l) (others-before (false-parent r) t-non-taut l) (r .others l .0 m))
+    level-least v c (λ l m. ⊎-elim (others-before (true-parent r) s-non-taut l) (others-before (false-parent r) t-non-taut l) (resolves-others r l .0 m))
 
 -- the prefix from level i on, parted at level v
 pub prefix-parts : (qs : List Quantifier) (i v : ℕ) → i ≤ v → v ≤ length qs → drop i qs ≡ drop i (take v qs) ++ drop v qs

@@ -1,12 +1,13 @@
--- What is claimed of S-resolution: that R.2 is source document 004's, and 004's Lemma 3.1 and Corollary 3.2 in document
--- 01's numbers. Assumes nothing.
-use Prim.Native.Nat.{ℕ, _<_}
+-- What is claimed of S-resolution: that R.2 and R.3 are source document 004's, and 004's Lemma 3.1 and Corollary 3.2 in
+-- document 01's numbers. Assumes nothing.
+use Prim.Native.Nat.{ℕ, _+_, _*_, _<_}
 use mathlib.Core.Path.{_≡_}
+use mathlib.Core.Logic.{_⊎_, _↔_, _≢_}
 use mathlib.Core.List.{List}
 use mathlib.Core.Option.{none, some}
 use lib.ListN.{length, drop}
 use Rattle.formula.specs.declared.Status.the-variants.{Falsified, Satisfied}
-use Rattle.formula.specs.Formula.{clause-status, formula-status}
+use Rattle.formula.specs.Formula.{clause-status, formula-status, _∈_}
 use Rattle.formula.specs.Nodes.{Every}
 use Rattle.formula.specs.Quantifier.{Quantifier}
 use Rattle.formula.specs.Tree.{number, figure}
@@ -17,6 +18,11 @@ use Rattle.resolution.specs.Resolution.{Annotated, level, Line, judge-li
 -- values
 abbrev pub Implied : ℕ → List (List ℕ) → List ℕ → Type 0
 Implied n φ c = (p : List ℕ) → length p ≡ n → Every (λ x. x < 2) p → clause-status p c ≡ Falsified → formula-status p φ ≡ Satisfied
+
+-- the literals of 004's R.3, a set: c has those of the true-side parent s but the opposite of v, those of the
+-- false-side parent t but v, and no other
+abbrev pub OtherLiterals : ℕ → List ℕ → List ℕ → List ℕ → Type 0
+OtherLiterals v s t c = (l : ℕ) → (l ∈ c) ↔ (((l ∈ s) × (l ≢ 2 * v + 1)) ⊎ ((l ∈ t) × (l ≢ 2 * v)))
 
 -- Lemma 3.1 of a clause: a node at the clause's level under which the clause is falsified has the clause's value for
 -- its number

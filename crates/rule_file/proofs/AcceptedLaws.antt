@@ -6,9 +6,12 @@ use mathlib.Core.List.{List}
 use mathlib.Core.Option.{Option, none, some}
 use Prim.Native.Nat.{ℕ}
 use native.Mathlib.Omega.{arith}
+use Rattle.formula.specs.Formula.{repeats}
 use Rattle.rule_file.specs.Limits.{rule-trailer}
+use Rattle.rule_file.specs.Walk.{first}
+use Rattle.rule_file.specs.RuleFile.{clauses}
 use Rattle.rule_file.specs.Answer.{Answer, refused, answer, refuse-if, refuse-at, and-then}
-use Rattle.rule_file.specs.Reader.{reading, read-file, read-from-3, read-from-5, read-from-8}
+use Rattle.rule_file.specs.Reader.{reading, read-file, read-from-3, read-from-5, read-from-6, read-from-8}
 use Rattle.rule_file.specs.Accepted.{Accepted, header}
 use Rattle.rule_file.specs.declared.Header.{Header}
 use Rattle.rule_file.specs.declared.Refusal.{Refusal}
@@ -16,11 +19,14 @@ use Rattle.rule_file.specs.declared.Reading.{Reading}
 use Rattle.rule_file.specs.declared.Reading.the-variants as reading-variants
 use Rattle.rule_file.proofs.WalkLaws.{first-none, none-first-place}
 use Rattle.rule_file.proofs.WordsLaws.{right-length}
-use Rattle.rule_file.proofs.ReaderLaws.{check-2, check-3, check-4, check-9}
+use Rattle.rule_file.proofs.ReaderLaws.{check-2, check-3, check-4, check-9, ordered-once}
 
 -- an answer is no refusal
 pub answer-no-refusal : {A : Type 0} (r : Refusal) (x : A) → refused r ≡ answer x → ⊥
 answer-no-refusal r x e = let z : _≡_ {A = ℕ} 0 1 = cc in omega arith
+
+same-answer : {A : Type 0} (x y : A) → answer x ≡ answer y → x ≡ y
+same-answer x y e = cc
 
 -- it has passed the check at hand
 pub passed : {A : Type 0} (t : Bool) (k : ℕ) (rest : Answer A) (x : A) → refuse-if t k rest ≡ answer x → (t ≡ false) × (rest ≡ answer x)
@@ -36,7 +42,7 @@ passed-then (refused r) f x e = absurd (answer-no-refusal r x e)
 passed-then (answer a) f x e = (a, refl, e)
 
 pub answered : (b : List ℕ) (h : Header) → read-file b ≡ answer h → Accepted b × (h ≡ header b)
-unfolding read-file read-from-3 read-from-5 read-from-8
+unfolding read-file read-from-3 read-from-5 read-from-6 read-from-8
 answered b h e =
     let (e₁, r₁) = passed _ _ _ h e in
     let (e₂, r₂) = passed _ _ _ h r₁ in
@@ -44,8 +50,9 @@ answered b h e =
     let (e₄, r₄) = passed _ _ _ h r₃ in
     let (e₅, r₅) = passed-at _ _ _ h r₄ in
     let (e₆, r₆) = passed-at _ _ _ h r₅ in
-    let (e₇, r₇) = passed-at _ _ _ h r₆ in
-    let (e₈, r₈) = passed-at _ _ _ h r₇ in
+    let (_, r₇) = passed-at (first repeats (clauses b)) 7 _ h r₆ in
+    let (e₂₃, r₂₃) = passed-at _ _ _ h r₇ in
+    let (e₈, r₈) = passed-at _ _ _ h r₂₃ in
     let (e₉, r₉) = passed _ _ _ h r₈ in
     let counts = check-3 b .0 e₃ in (
       record {
@@ -56,15 +63,15 @@ answered b h e =
         prefix-ends = check-4 b .0 e₄;
         walked = e₅;
         in-range = first-none _ _ e₆;
-        no-repeats = first-none _ _ e₇;
+        ordered = first-none _ _ e₂₃;
         well-formed = first-none _ _ e₈;
         bounded = check-9 b .0 e₉;
       },
-      cc,
+      same-answer h (header b) (sym r₉),
     )
 
 pub accepted-answers : (b : List ℕ) → Accepted b → read-file b ≡ answer (header b)
-unfolding read-file read-from-3 read-from-5 read-from-8
+unfolding read-file read-from-3 read-from-5 read-from-6 read-from-8
 accepted-answers b a =
     rw (
       right-length rule-trailer b .1 (a .right-length),
@@ -73,7 +80,8 @@ accepted-answers b a =
       check-4 b .1 (a .prefix-ends),
       a .walked,
       none-first-place _ _ (a .in-range),
-      none-first-place _ _ (a .no-repeats),
+      none-first-place _ _ (ordered-once _ (a .ordered)),
+      none-first-place _ _ (a .ordered),
       none-first-place _ _ (a .well-formed),
       check-9 b .1 (a .bounded),
     )

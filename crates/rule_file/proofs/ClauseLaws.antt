@@ -1,19 +1,21 @@
 -- Clauses: what the test that a clause fits says; what a walk without fault, and what an accepted file, says of each
--- clause; literals in range, and variables that stand twice, one literal at a time; and the table of masks, one clause
--- at a time. Elements and walks in general are in WalkLaws, sets of bits in BitSetLaws. Assumes nothing.
+-- clause; literals in range, variables that stand twice, and variables that rise, one literal at a time; and the table
+-- of masks, one clause at a time. Elements and walks in general are in WalkLaws, sets of bits in BitSetLaws. Assumes
+-- nothing.
 use mathlib.Core.Path.{_≡_, refl, sym, ap, ap₂, _∙_}
-use mathlib.Core.Bool.{Bool, true, false, false≢true, _&&_, _||_, or-false, or-assoc, or-comm, and-true}
+use mathlib.Core.Bool.{Bool, true, false, _&&_, _||_, or-false, or-assoc, or-comm, and-true}
 use mathlib.Core.List.{List, [], _∷_, _++_, map, map-append}
 use mathlib.Core.Option.{none}
 use Prim.Native.Nat.{ℕ, zero, suc, _+_, _-_, _*_, _^_, _≤_, _<_}
 use native.Mathlib.Numerals.{add-one}
 use native.Mathlib.Omega.{arith}
-use lib.Dec.{leb, eqb}
+use lib.Dec.{leb, ltb, eqb}
 use lib.ListN.{length, getD, take, set, replicate, length-map, length-append, length-replicate, List·getD-append, List·getD-map}
 use lib.Seq.{set-at, take-at, append-snoc}
-use borrow.Author.Tests.{lt-ltb, le-leb, ltb-true, leb-true, leb-false}
-use Rattle.formula.specs.Formula.{some-of, variable, is-of, out-of-range, repeats}
-use Rattle.formula.proofs.SomeLaws.{some-here, some-later, some-over, repeats-over, none-first, none-rest}
+use borrow.Author.Tests.{lt-ltb, le-ltb, le-leb, lt-leb, ltb-true, ltb-false, leb-true, leb-false}
+use Rattle.formula.specs.Formula.{some-of, variable, is-of, out-of-range, repeats, unordered, ill-formed}
+use Rattle.formula.proofs.SomeLaws.{same-truth, some-here, some-later, some-over, repeats-over, none-first, none-rest, none-by-places, none-implied}
+use Rattle.formula.proofs.Membership.{and-iff}
 use Rattle.bit_set.specs.BitSet.{has, including, mask-onto, mask}
 use Rattle.bit_set.proofs.BitSetLaws.{has-none, has-including}
 use Rattle.rule_file.specs.Limits.{max-variables, max-clauses}
@@ -33,10 +35,6 @@ pub record Fits (b : List ℕ) (n end i : ℕ) : Type 0 where
   pub ends : after-clause b i ≤ end
   pub short : word b i ≤ n
 
-both-true : (s t : Bool) → s && t ≡ true → (s ≡ true) × (t ≡ true)
-both-true true t e = (refl, e)
-both-true false t e = absurd (false≢true e)
-
 module _ (b : List ℕ) (n end i : ℕ) where
   -- only the number of literals is left to test
   pub fits-by-length : i < end → after-clause b i ≤ end → leb (word b i) n ≡ clause-fits b n end i
@@ -46,8 +44,8 @@ module _ (b : List ℕ) (n end i : ℕ) where
   pub true-fits : clause-fits b n end i ≡ true → Fits b n end i
   unfolding clause-fits
   true-fits e =
-      let (e₁₂, e₃) = both-true _ _ e in
-      let (e₁, e₂) = both-true _ _ e₁₂ in
+      let (e₁₂, e₃) = and-iff _ _ .0 e in
+      let (e₁, e₂) = and-iff _ _ .0 e₁₂ in
       record { starts = ltb-true _ _ e₁; ends = leb-true _ _ e₂; short = leb-true _ _ e₃ }
 
   pub fits-false : (Fits b n end i → ⊥) → clause-fits b n end i ≡ false
@@ -156,6 +154,63 @@ module _ (seen : ℕ) {l : ℕ} {ls ys : List ℕ} (e : ys ≡ l ∷ ls) where
 pub repeats-done : (seen : ℕ) {ys : List ℕ} → ys ≡ [] → repeats-after seen ys ≡ false
 unfolding repeats-after
 repeats-done seen e = ap₂ _||_ (repeats-over e) (some-over (is-seen seen) e)
+
+-- Literals in range whose variables rise, by the least variable that the next one may have
+
+-- whether the literal's variable is under the least
+abbrev pub is-under : ℕ → ℕ → Bool
+is-under least l = ltb (variable l) least
+
+-- whether the literals left are ill-formed, or one is of a variable under the least
+unfoldable pub ill-formed-after : ℕ → ℕ → List ℕ → Bool
+ill-formed-after n least ls = ill-formed n ls || some-of (is-under least) ls
+
+pub ill-formed-from-none : (n : ℕ) (ls : List ℕ) → ill-formed-after n 0 ls ≡ ill-formed n ls
+unfolding ill-formed-after
+ill-formed-from-none n ls = ap (ill-formed n ls ||_) (none-under ls) ∙ or-false (ill-formed n ls)
+  where
+    none-under : (ls : List ℕ) → some-of (is-under 0) ls ≡ false
+    none-under ls = none-by-places (is-under 0) 0 ls (λ k h. le-ltb (variable (getD ls k 0)) 0 (omega arith))
+
+module _ (n least : ℕ) {l : ℕ} {ls ys : List ℕ} (e : ys ≡ l ∷ ls) where
+  pub ill-formed-under : variable l < least → ill-formed-after n least ys ≡ true
+  unfolding ill-formed-after
+  ill-formed-under h = ap (ill-formed n ys ||_) (some-here (is-under least) e (lt-ltb (variable l) least h)) ∙ or-comm (ill-formed n ys) true
+
+  pub ill-formed-over : n ≤ variable l → ill-formed-after n least ys ≡ true
+  unfolding ill-formed-after ill-formed out-of-range
+  ill-formed-over h = rw (some-here (leb (2 * n)) e (le-leb (2 * n) l (omega arith)))
+
+  -- the literal's own variable is the last that may not follow
+  abbrev after : List ℕ → Bool
+  after = some-of (is-under (variable l + 1))
+
+  after-is : some-of (λ k. leb (variable k) (variable l)) ls ≡ after ls
+  after-is = ap (λ f. some-of f ls) (λ i k. same k i)
+    where
+      same : (k : ℕ) → leb (variable k) (variable l) ≡ ltb (variable k) (variable l + 1)
+      same k = same-truth (
+        λ t. lt-ltb (variable k) (variable l + 1) (omega (arith, leb-true (variable k) (variable l) t)),
+        λ t. le-leb (variable k) (variable l) (omega (arith, ltb-true (variable k) (variable l + 1) t)),
+      )
+
+  pub ill-formed-on : least ≤ variable l → variable l < n → ill-formed-after n (variable l + 1) ls ≡ ill-formed-after n least ys
+  unfolding ill-formed-after ill-formed out-of-range unordered
+  ill-formed-on h h′ =
+      regroup (some-of (leb (2 * n)) ls) (unordered ls) (after ls) (some-of (is-under least) ls)
+      (none-implied (is-under (variable l + 1)) (is-under least) (λ k t. le-ltb (variable k) least (omega (arith, ltb-false (variable k) (variable l + 1) t))) ls)
+      ∙ ap₂ _||_
+      (ap₂ _||_ (some-later (leb (2 * n)) e (lt-leb (2 * n) l (omega arith))) (ap (_|| unordered ls) (sym after-is) ∙ sym (ap unordered e)))
+      (some-later (is-under least) e (le-ltb (variable l) least h))
+    where
+      regroup : (o u a b : Bool) → (a ≡ false → b ≡ false) → (o || u) || a ≡ (o || (a || u)) || b
+      regroup true u a b h = refl
+      regroup false u true b h = or-comm u true
+      regroup false u false b h = ap (u ||_) (sym (h refl))
+
+pub ill-formed-done : (n least : ℕ) {ys : List ℕ} → ys ≡ [] → ill-formed-after n least ys ≡ false
+unfolding ill-formed-after ill-formed out-of-range unordered some-of
+ill-formed-done n least e = rw e
 
 -- The table of masks
 

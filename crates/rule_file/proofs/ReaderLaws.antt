@@ -1,14 +1,16 @@
 -- The reader's answer, one check at a time: checks 1 to 4 and 9 with the fact that each decides, then what checks 5 to
--- 8 speak of by the counts that a Trailer holds. What the checks over clauses and variables say is in ClauseLaws and
--- PrefixLaws. Assumes nothing.
+-- 8 speak of by the counts that a Trailer holds, and 6, 7 and 23 at once. What the checks over clauses and variables
+-- say is in ClauseLaws and PrefixLaws. Assumes nothing.
 use mathlib.Core.Path.{_≡_, sym, ap, _∙_}
+use mathlib.Core.Bool.{false}
 use mathlib.Core.List.{List}
 use mathlib.Core.Option.{Option, none, some}
 use Prim.Native.Nat.{ℕ, _+_, _-_, _*_, _≤_}
 use borrow.Author.Tests.{le-ltb, ltb-false}
-use Rattle.formula.specs.Formula.{out-of-range, repeats}
+use Rattle.formula.specs.Formula.{some-of, out-of-range, repeats, unordered, ill-formed}
 use Rattle.formula.specs.Quantifier.{denominator}
-use Rattle.formula.proofs.SomeLaws.{or-false}
+use Rattle.formula.proofs.SomeLaws.{or-false, none-implied}
+use Rattle.formula.proofs.OrderLaws.{ordered-no-repeats}
 use Rattle.rule_file.specs.Limits.{max-variables, max-clauses, max-whole}
 use Rattle.rule_file.specs.Walk.{first}
 use Rattle.rule_file.specs.Words.{word-count, stated-count}
@@ -17,6 +19,7 @@ use Rattle.rule_file.specs.Checks.{place, clause-fails, Trailer}
 use Rattle.rule_file.specs.declared.Found.{Found}
 use Rattle.rule_file.specs.declared.Found.the-variants as found-variants
 use Rattle.rule_file.specs.Reader.{wrong-count, too-many, wrong-prefix, too-large, walk-clauses, malformed}
+use Rattle.rule_file.proofs.WalkLaws.{first-none, none-first-place, first-either}
 use Rattle.rule_file.proofs.WordsLaws.{Decides, differs}
 
 pub check-2 : (b : List ℕ) → Decides (wrong-count b) (stated-count b ≡ word-count b)
@@ -48,6 +51,11 @@ module _ (b : List ℕ) (m n start : ℕ) (t : Trailer b m n start) where
   unfolding clause-fails
   check-7 = rw (← (t .clause-count-is))
 
+  -- 6, 7 and 23 at once
+  pub check-literals : first (ill-formed (variable-count b)) (clauses b) ≡ first (clause-fails n 23) (clauses-from b m 0)
+  unfolding clause-fails
+  check-literals = rw (← (t .variable-count-is), ← (t .clause-count-is))
+
   prefix-is : prefix b ≡ prefix-from b n start
   prefix-is = rw (← (t .variable-count-is), ← (t .prefix-start-is))
 
@@ -56,6 +64,27 @@ module _ (b : List ℕ) (m n start : ℕ) (t : Trailer b m n start) where
 
   pub whole-is : whole b ≡ denominator (prefix-from b n start)
   whole-is = ap denominator prefix-is
+
+-- where the variables of each clause rise, none stands twice in a clause
+pub ordered-once : (φ : List (List ℕ)) → some-of unordered φ ≡ false → some-of repeats φ ≡ false
+ordered-once = none-implied unordered repeats ordered-no-repeats
+
+-- 6, 7 and 23 at once: where no clause is ill-formed all three pass
+module _ (n : ℕ) (φ : List (List ℕ)) where
+  pub well-formed-pass : first (ill-formed n) φ ≡ none → (first (out-of-range n) φ ≡ none) × (first repeats φ ≡ none) × (first unordered φ ≡ none)
+  unfolding ill-formed
+  well-formed-pass e =
+      let none-fails = first-none (ill-formed n) φ e in
+      let ordered = none-implied (ill-formed n) unordered (λ c f. or-false (out-of-range n c) (unordered c) f .1) φ none-fails in (
+        none-first-place (out-of-range n) φ (none-implied (ill-formed n) (out-of-range n) (λ c f. or-false (out-of-range n c) (unordered c) f .0) φ none-fails),
+        none-first-place repeats φ (ordered-once φ ordered),
+        none-first-place unordered φ ordered,
+      )
+
+  -- and where 6 passes, the first that is ill-formed is the first that is unordered
+  pub ill-formed-unordered : first (out-of-range n) φ ≡ none → first (ill-formed n) φ ≡ first unordered φ
+  unfolding ill-formed
+  ill-formed-unordered e = first-either (out-of-range n) unordered φ (first-none (out-of-range n) φ e)
 
 -- what a search found, for a caller that goes by the case of it
 module _ {o : Option ℕ} {r : Found} (e : place r ≡ o) where

@@ -3,7 +3,7 @@
 -- them; first places, as a loop counts them; and the walk. What fits and what an element is is said by the laws of
 -- clauses, of the prefix and of derivation lines. Assumes nothing.
 use mathlib.Core.Path.{_≡_, refl, sym, ap, ap₂, _∙_}
-use mathlib.Core.Bool.{Bool, true, false, cond}
+use mathlib.Core.Bool.{Bool, true, false, cond, _||_}
 use mathlib.Core.List.{List, [], _∷_, _++_}
 use mathlib.Core.Option.{Option, none, some, Option·some-ne-none, Option·none-ne-some, Option·some-injective}
 use Prim.Native.Nat.{ℕ, zero, suc, _+_, _-_, _≤_, _<_}
@@ -164,6 +164,12 @@ module _ {A : Type 0} (f : A → Bool) where
           let (j, found, at) = later-some (first f xs) i (sym (first-fails x xs t) ∙ e) in
           let (h, u) = rest j d found in
           rw (← at) (omega arith, u)
+
+-- where no element passes one of two tests, the first that passes either is the first that passes the other
+pub first-either : {A : Type 0} (f g : A → Bool) (xs : List A) → some-of f xs ≡ false → first (λ x. f x || g x) xs ≡ first g xs
+unfolding first
+first-either f g [] e = refl
+first-either f g (x ∷ xs) e = rw (none-first f x xs e, first) (ap (λ o. elim (g x) [ true ↦ some 0 | false ↦ later o ]) (first-either f g xs (none-rest f x xs e)))
 
 -- what is found in the rest, counted from k
 unfoldable pub from : ℕ → Option ℕ → Option ℕ

@@ -1,12 +1,12 @@
--- What checks 1 to 9 leave true of a file: what the layers above are given. That it is exactly the reader's acceptance
--- is proved. Assumes nothing.
+-- What the reader's checks leave true of a file: what the layers above are given. That it is exactly the reader's
+-- acceptance is proved. Assumes nothing.
 use mathlib.Core.Path.{_≡_}
 use mathlib.Core.Bool.{false}
 use mathlib.Core.List.{List}
 use mathlib.Core.Option.{none}
 use Prim.Native.Nat.{ℕ, _+_, _-_, _*_, _%_, _≤_}
 use lib.ListN.{length}
-use Rattle.formula.specs.Formula.{some-of, out-of-range, repeats}
+use Rattle.formula.specs.Formula.{some-of, out-of-range, unordered}
 use Rattle.rule_file.specs.Limits.{max-bytes, rule-trailer, max-variables, max-clauses, max-whole}
 use Rattle.rule_file.specs.Words.{word-count, stated-count}
 use Rattle.rule_file.specs.RuleFile.{clause-count, variable-count, prefix-start, clauses, prefix, whole}
@@ -19,6 +19,7 @@ pub record Length (least : ℕ) (b : List ℕ) : Type 0 where
   pub at-least : least ≤ length b
   pub at-most : length b ≤ max-bytes
 
+-- 7 leaves nothing besides: where variables rise, none stands twice
 pub record Accepted (b : List ℕ) : Type 0 where
   pub right-length : Length rule-trailer b
   pub right-count : stated-count b ≡ word-count b
@@ -27,7 +28,7 @@ pub record Accepted (b : List ℕ) : Type 0 where
   pub prefix-ends : prefix-start b + 2 * variable-count b ≡ word-count b - 4
   pub walked : walk-clauses b (variable-count b) (prefix-start b) (clause-count b) 0 ≡ none
   pub in-range : some-of (out-of-range (variable-count b)) (clauses b) ≡ false
-  pub no-repeats : some-of repeats (clauses b) ≡ false
+  pub ordered : some-of unordered (clauses b) ≡ false
   pub well-formed : some-of malformed (prefix b) ≡ false
   pub bounded : whole b ≤ max-whole
 

@@ -5,7 +5,7 @@ use mathlib.Core.List.{List}
 use mathlib.Core.Option.{Option, none, some}
 use Prim.Native.Nat.{ℕ, _+_, _*_, _≤_}
 use lib.Dec.{leb, ltb, eqb}
-use Rattle.formula.specs.Formula.{out-of-range, repeats}
+use Rattle.formula.specs.Formula.{out-of-range, repeats, ill-formed}
 use Rattle.rule_file.specs.Limits.{max-variables}
 use Rattle.rule_file.specs.Words.{word-count}
 use Rattle.rule_file.specs.RuleFile.{clause-count, variable-count, prefix-start}
@@ -21,9 +21,9 @@ place (At i) = some i
 abbrev pub between : ℕ → ℕ → ℕ → Bool
 between lo hi w = leb lo w && ltb w hi
 
--- 6 or 7 of one clause, by the check's number
+-- 6 or 7 of one clause, by the check's number; by any other number, whether it fails 6, 7 or 23
 unfoldable pub clause-fails : ℕ → ℕ → List ℕ → Bool
-clause-fails n number c = cond (eqb number 6) (out-of-range n c) (repeats c)
+clause-fails n number c = cond (eqb number 6) (out-of-range n c) (cond (eqb number 7) (repeats c) (ill-formed n c))
 
 -- checks 1 to 4 are passed: the counts are the trailer's, and the prefix ends where the trailer begins
 pub record Trailer (b : List ℕ) (m n start : ℕ) : Type 0 where

@@ -1,11 +1,12 @@
--- The reader's answer for every file: document 01's checks 1 to 9 in their order, each over the whole file before the
--- next. 5, 6 and 7 name the first clause at fault, and 8 the first variable. Assumes nothing.
+-- The reader's answer for every file: document 01's checks 1 to 9 and document 02's 23, in the order 1 to 7, 23, 8, 9,
+-- each over the whole file before the next. 5, 6, 7 and 23 name the first clause at fault, and 8 the first variable.
+-- Assumes nothing.
 use Prim.Native.Nat.{ℕ, _+_, _-_, _*_}
 use mathlib.Core.Bool.{Bool, false, not, _&&_, _||_}
 use mathlib.Core.List.{List}
 use mathlib.Core.Option.{Option}
 use lib.Dec.{leb, ltb, eqb}
-use Rattle.formula.specs.Formula.{out-of-range, repeats}
+use Rattle.formula.specs.Formula.{out-of-range, repeats, unordered}
 use Rattle.formula.specs.Quantifier.{Quantifier, existential, randomized}
 use Rattle.rule_file.specs.Limits.{rule-trailer, max-variables, max-clauses, max-weight, max-whole}
 use Rattle.rule_file.specs.Walk.{first, walk}
@@ -36,8 +37,8 @@ clause-fits b n end i = ltb i end && leb (after-clause b i) end && leb (word b i
 abbrev pub walk-clauses : List ℕ → ℕ → ℕ → ℕ → ℕ → Option ℕ
 walk-clauses b n end = walk (after-clause b) (clause-fits b n end) end
 
--- 6 is out-of-range, a literal of 2n or more, and 7 is repeats, a variable twice. 8: a weight over 65,535, or one
--- weight 0 and the other not
+-- 6 is out-of-range, a literal of 2n or more; 7 is repeats, a variable twice; 23 is unordered, variables that do not
+-- rise. 8: a weight over 65,535, or one weight 0 and the other not
 unfoldable pub malformed : Quantifier → Bool
 malformed existential = false
 malformed (randomized s t) = eqb s 0 || eqb t 0 || ltb max-weight s || ltb max-weight t
@@ -53,12 +54,15 @@ read-from-8 b =
     (refuse-if (too-large b) 9
     (answer (record { variables = variable-count b; clauses = clause-count b; prefix = prefix-start b; whole = whole b })))
 
-unfoldable pub read-from-5 : List ℕ → Answer Header
-read-from-5 b =
-    refuse-at (walk-clauses b (variable-count b) (prefix-start b) (clause-count b) 0) 5
-    (refuse-at (first (out-of-range (variable-count b)) (clauses b)) 6
+unfoldable pub read-from-6 : List ℕ → Answer Header
+read-from-6 b =
+    refuse-at (first (out-of-range (variable-count b)) (clauses b)) 6
     (refuse-at (first repeats (clauses b)) 7
+    (refuse-at (first unordered (clauses b)) 23
     (read-from-8 b)))
+
+unfoldable pub read-from-5 : List ℕ → Answer Header
+read-from-5 b = refuse-at (walk-clauses b (variable-count b) (prefix-start b) (clause-count b) 0) 5 (read-from-6 b)
 
 unfoldable pub read-from-3 : List ℕ → Answer Header
 read-from-3 b = refuse-if (too-many b) 3 (refuse-if (wrong-prefix b) 4 (read-from-5 b))

@@ -1,31 +1,32 @@
 -- Every sample's question has its outcome, computed. Assumes nothing.
 use mathlib.Core.Path.{_≡_, refl}
 use mathlib.Core.List.{map}
-use Rattle.formula.specs.Formula.{literal-status, clause-status, formula-status, some-of, out-of-range, repeats, all-of}
+use Rattle.formula.specs.Formula.{literal-status, clause-status, formula-status, some-of, out-of-range, repeats, unordered, ill-formed, insert-once, rising, equal, all-of}
 use Rattle.formula.specs.Quantifier.{denominator}
 use Rattle.formula.specs.Tree.{value, evaluate}
 use Rattle.buffer.specs.Bytes.{word-bytes, bytes-of}
 use Rattle.rule_file.specs.Walk.{elements, first, walk}
 use Rattle.rule_file.specs.Words.{word, wrong-length}
 use Rattle.rule_file.specs.RuleFile.{quantifier}
-use Rattle.rule_file.specs.Reader.{wrong-count, too-many, wrong-prefix, clause-fits, malformed, too-large, read-from-8, read-from-5, read-from-3, read-file}
+use Rattle.rule_file.specs.Reader.{wrong-count, too-many, wrong-prefix, clause-fits, malformed, too-large, read-from-8, read-from-6, read-from-5, read-from-3, read-file}
 use Rattle.value.specs.Value.{figure-file, verdict, verdict-file}
 use Rattle.bounds.specs.Cut.{cut-file}
 use Rattle.resolution.specs.Resolution.{level, without, is-resolvent, lookup, require, judge-resolvent, judge, first-refusal, judge-from, empty-value}
 use Rattle.derivation.specs.DerivationFile.{value-at, line-of, after-line}
-use Rattle.derivation.specs.Check.{wrong-counts, line-fits, line-fails, check-from-21, check-from-17, check-from-15, check-from-13, check-file}
-use Rattle.writing.specs.Writing.{below, rising, opposites-from, walk-tree}
+use Rattle.derivation.specs.Check.{wrong-counts, line-fits, check-from-21, check-from-17, check-from-15, check-from-13, check-file}
+use Rattle.writing.specs.Writing.{opposites-from, walk-tree}
 use Rattle.writing.specs.File.{line-words, lines-words, derivation-words}
 use Rattle.writing.specs.Derive.{derivation-for, too-long, derive-file}
 use Rattle.samples.specs.Samples.{Sample, ask, samples}
 
 pub samples-hold : map (λ (s : Sample). ask (s .question)) samples ≡ map (λ (s : Sample). s .outcome) samples
-unfolding literal-status clause-status formula-status some-of all-of out-of-range repeats denominator value evaluate
+unfolding literal-status clause-status formula-status some-of all-of out-of-range repeats unordered ill-formed insert-once rising equal
+    denominator value evaluate
     bytes-of word-bytes elements first walk word wrong-length quantifier
-    wrong-count too-many wrong-prefix clause-fits malformed too-large read-from-8 read-from-5 read-from-3 read-file
+    wrong-count too-many wrong-prefix clause-fits malformed too-large read-from-8 read-from-6 read-from-5 read-from-3 read-file
     figure-file verdict verdict-file cut-file
     level without is-resolvent lookup require judge-resolvent judge first-refusal judge-from empty-value
-    value-at line-of after-line wrong-counts line-fits line-fails check-from-21 check-from-17 check-from-15 check-from-13 check-file
-    below rising opposites-from walk-tree line-words lines-words derivation-words derivation-for too-long derive-file
+    value-at line-of after-line wrong-counts line-fits check-from-21 check-from-17 check-from-15 check-from-13 check-file
+    opposites-from walk-tree line-words lines-words derivation-words derivation-for too-long derive-file
     ask samples
 samples-hold = refl

@@ -1,5 +1,6 @@
--- Document 01's samples P1 to P12, the places that document 02 (i) adds to refusals and the derivations that (ii)
--- writes, in one list: each a question to an operation, and the answer that it must give. Assumes nothing.
+-- Document 01's samples P1 to P12, the places that document 02 (i) adds to refusals, the derivations that (ii) writes
+-- and the order that (iv) asks for, in one list: each a question to an operation, and the answer that it must give.
+-- Assumes nothing.
 use mathlib.Core.List.{List, [], _∷_}
 use Prim.Native.Nat.{ℕ}
 use Rattle.buffer.specs.Bytes.{bytes-of}
@@ -54,19 +55,26 @@ sample q o = record { question = q; outcome = o }
 abbrev pub example : List ℕ
 example = 2 ∷ 0 ∷ 2 ∷ 1 ∷ 3 ∷ 2 ∷ 2 ∷ 4 ∷ 4 ∷ 1 ∷ 0 ∷ 0 ∷ 3 ∷ 7 ∷ 3 ∷ 3 ∷ 8 ∷ 18 ∷ []
 
--- its derivation
-abbrev derivation : List ℕ
-derivation =
-    1 ∷ 3 ∷ 1 ∷ 2 ∷ 5 ∷ 1 ∷ 0 ∷
-    2 ∷ 2 ∷ 1 ∷ 2 ∷ 3 ∷ 0 ∷ 2 ∷ 1 ∷ 4 ∷
+-- its derivation, with these literals of variables 0 and 1 in lines 0 and 1
+abbrev derivation-with : ℕ → ℕ → ℕ → ℕ → List ℕ
+derivation-with k l s t =
+    1 ∷ 3 ∷ k ∷ l ∷ 5 ∷ 1 ∷ 0 ∷
+    2 ∷ 2 ∷ s ∷ t ∷ 3 ∷ 0 ∷ 2 ∷ 1 ∷ 4 ∷
     2 ∷ 1 ∷ 1 ∷ 3 ∷ 0 ∷ 1 ∷ 2 ∷ 3 ∷
     2 ∷ 1 ∷ 0 ∷ 0 ∷ 0 ∷ 1 ∷ 2 ∷ 0 ∷
     2 ∷ 0 ∷ 12 ∷ 0 ∷ 0 ∷ 5 ∷ 7 ∷
     5 ∷ 9 ∷ 42 ∷ []
 
+abbrev derivation : List ℕ
+derivation = derivation-with 1 2 1 2
+
 -- clauses {0} and {2, 3} over two choices: variable 1 stands twice in clause 1
 abbrev pub variable-twice : List ℕ
 variable-twice = 1 ∷ 0 ∷ 2 ∷ 2 ∷ 3 ∷ 0 ∷ 0 ∷ 0 ∷ 0 ∷ 2 ∷ 2 ∷ 5 ∷ 13 ∷ []
+
+-- clauses {0} and {2, 0} over two choices: the variables of clause 1 do not rise
+abbrev pub not-rising : List ℕ
+not-rising = 1 ∷ 0 ∷ 2 ∷ 2 ∷ 0 ∷ 0 ∷ 0 ∷ 0 ∷ 0 ∷ 2 ∷ 2 ∷ 5 ∷ 13 ∷ []
 
 unfoldable pub samples : List Sample
 samples =
@@ -108,4 +116,12 @@ samples =
     -- of no clauses: one line, empty; of one empty clause: no line, and the clause named
     sample (derive (0 ∷ 0 ∷ 0 ∷ 4 ∷ []) 28) (written (answer (bytes-of (1 ∷ 0 ∷ 1 ∷ 0 ∷ 1 ∷ 1 ∷ 7 ∷ [])))) ∷
     sample (derive (0 ∷ 1 ∷ 0 ∷ 1 ∷ 5 ∷ []) 12) (written (answer (bytes-of (0 ∷ 0 ∷ 3 ∷ [])))) ∷
+    -- 23; 7 before it, with {2, 0} and {0, 1}; and it before 8, with {2, 0} over weights 0:1
+    sample (figure not-rising) (refused-at 23 1) ∷
+    sample (figure (2 ∷ 2 ∷ 0 ∷ 2 ∷ 0 ∷ 1 ∷ 0 ∷ 0 ∷ 0 ∷ 0 ∷ 2 ∷ 2 ∷ 6 ∷ 14 ∷ [])) (refused-at 7 1) ∷
+    sample (figure (2 ∷ 2 ∷ 0 ∷ 0 ∷ 1 ∷ 0 ∷ 0 ∷ 1 ∷ 2 ∷ 3 ∷ 11 ∷ [])) (refused-at 23 0) ∷
+    -- 16: the variables of a line do not rise, in line 1 and in both; 19: another sign of a literal in line 1
+    sample (check example (derivation-with 1 2 2 1)) (checked (refused (At 16 1))) ∷
+    sample (check example (derivation-with 2 1 2 1)) (checked (refused (At 16 0))) ∷
+    sample (check example (derivation-with 1 2 1 3)) (checked (refused (At 19 1))) ∷
     []

@@ -1,6 +1,5 @@
--- Laws of sets as rising lists, of the limits, of lines as they are written, of sets of clauses, of sets as clauses, of
+-- Laws of the limits, of lines as they are written, of sets of clauses, of sets as clauses, of
 -- the walk at a node and of the answer.
-pub mod MemberLaws
 pub mod LimitLaws
 pub mod LineLaws
 pub mod LevelLaws

@@ -16,7 +16,7 @@ use Rattle.buffer.proofs.TextLaws.{put-front, put-length}
 use Rattle.rule_file.specs.Limits.{max-lines}
 use Rattle.rule_file.proofs.WordsLaws.{Decides, decides-same}
 use Rattle.resolution.specs.Resolution.{Line, derived}
-use Rattle.resolution.proofs.Membership.{and-iff}
+use Rattle.formula.proofs.Membership.{and-iff}
 use Rattle.writing.specs.Writing.{write}
 use Rattle.writing.specs.File.{line-words, lines-words}
 use Rattle.writing.proofs.ReadLaws.{lines-append}

@@ -6,15 +6,15 @@ use mathlib.Core.List.{List, []}
 use Prim.Native.Nat.{ℕ, _^_, _≤_, _<_}
 use native.Mathlib.Omega.{arith}
 use lib.ListN.{length}
-use Rattle.formula.specs.Formula.{out-of-range}
+use Rattle.formula.specs.Formula.{out-of-range, ill-formed}
 use Rattle.formula.proofs.SomeLaws.{none-by-places}
+use Rattle.formula.proofs.Membership.{in-range-iff}
 use Rattle.rule_file.specs.Limits.{max-bytes, max-lines}
 use Rattle.rule_file.specs.RuleFile.{variable-count, clauses, prefix, whole}
 use Rattle.rule_file.specs.Accepted.{Accepted}
 use Rattle.rule_file.proofs.ClauseLaws.{clauses-length}
 use Rattle.rule_file.proofs.PrefixLaws.{prefix-length, denominator-within}
 use Rattle.resolution.specs.Resolution.{Annotated, Line, derived, line-at, Names, clause, line, Follows, by-R2, by-R3}
-use Rattle.resolution.proofs.Membership.{in-range-iff}
 use Rattle.resolution.proofs.Levels.{level-within}
 use Rattle.resolution.proofs.Bounds.{derivable-bounded}
 use Rattle.derivation.specs.Check.{line-fails}
@@ -62,8 +62,8 @@ module _ (b : List ℕ) (a : Accepted b) where
           }
 
       line-passes : (k : ℕ) → k < length ls → line-fails (variable-count b) (line-at ls k) ≡ false
-      unfolding line-fails
-      line-passes k h = rw (in-range (derived (line-at ls k)) (proved .clauses k h), proved .clauses k h .no-repeats)
+      unfolding ill-formed
+      line-passes k h = rw (in-range (derived (line-at ls k)) (proved .clauses k h), proved .clauses k h .ordered)
 
       module _ (r x : ℕ) (closes : Names (clauses b) ls (length ls) r (record { literals = []; value = x }))
           (few-lines : length ls ≤ max-lines) (few-bytes : length (derivation-bytes ls r) ≤ max-bytes) where

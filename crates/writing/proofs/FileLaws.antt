@@ -9,13 +9,13 @@ use native.Mathlib.Omega.{arith}
 use lib.ListN.{length, getD, length-append}
 use Rattle.formula.specs.Nodes.{Every}
 use Rattle.formula.proofs.NodesLaws.{every-cons, every-append}
+use Rattle.formula.proofs.Membership.{getD-in}
 use Rattle.buffer.specs.Bytes.{bytes-of}
 use Rattle.buffer.proofs.BytesLaws.{length-bytes-of, word-back}
 use Rattle.rule_file.specs.Limits.{max-bytes, max-variables, max-lines}
 use Rattle.rule_file.specs.Words.{word, word-count, stated-count}
 use Rattle.rule_file.proofs.WordsLaws.{Stand, stand-by-places, stand-word, stand-first, stand-rest}
 use Rattle.resolution.specs.Resolution.{Line, blocking, resolvent, derived, line-at}
-use Rattle.resolution.proofs.Membership.{getD-in}
 use Rattle.derivation.specs.DerivationFile.{trailer-start, line-count, closing-reference, lines-from, lines}
 use Rattle.derivation.specs.Check.{walk-lines}
 use Rattle.derivation.specs.WellFormed.{RightCounts}

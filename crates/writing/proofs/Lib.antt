@@ -1,7 +1,6 @@
--- Laws of rising lists, of a path's opposites, of lines, of the walk, of the file and of the writer's answer; then the
--- theorems over them.
+-- Laws of a path's opposites, of lines, of the walk, of the file and of the writer's answer; then the theorems over
+-- them.
 pub mod Leaving
-pub mod RisingLaws
 pub mod OppositesLaws
 pub mod LinesLaws
 pub mod JoinLaws

@@ -1,23 +1,24 @@
 -- The opposites of a path. First for values of any size: where each stands, one more value, one variable later. Then
--- for values 0 and 1: they are the literals that the path falsifies, one of each variable, rising; and their level.
+-- for values 0 and 1: they are the literals that the path falsifies, one of each variable; their variables rise; and
+-- their level.
 -- Assumes nothing.
 use Prim.Native.Nat.{ℕ, zero, suc, _+_, _*_, _%_, _≤_, _<_}
 use native.Mathlib.Nat.{le-antisymm}
-use native.Mathlib.Decide.{ℕ-discrete}
 use native.Mathlib.Omega.{arith}
 use mathlib.Core.Path.{_≡_, refl, sym, ap, ap₂, _∙_}
 use mathlib.Core.Logic.{_↔_, ⊎-elim}
-use mathlib.Core.Bool.{Bool, true, false}
+use mathlib.Core.Bool.{false, _||_}
 use mathlib.Core.List.{List, [], _∷_, _++_, map, List·Memᴰ·head, List·Memᴰ·tail, List·Memᴰ·not-nil, List·Memᴰ·cases-cons, Memᴰ·cast}
-use lib.ListN.{length, getD, take}
-use lib.Seq.{take-suc, take-length, length-take-le}
-use Rattle.formula.specs.Formula.{variable, opposite, member, repeats}
+use lib.Dec.{leb}
+use lib.ListN.{length, getD}
+use borrow.Author.Tests.{lt-leb}
+use Rattle.formula.specs.Formula.{variable, opposite, unordered, _∈_}
 use Rattle.formula.specs.Nodes.{TrueLiteral, FalseLiteral, Every}
-use Rattle.resolution.specs.Resolution.{_∈_, level}
-use Rattle.resolution.proofs.Membership.{member-iff, not-member-iff, getD-in}
+use Rattle.formula.proofs.OrderLaws.{OneOfEach}
+use Rattle.formula.proofs.Membership.{of-none, getD-in}
+use Rattle.resolution.specs.Resolution.{level}
 use Rattle.resolution.proofs.Levels.{opposite-is, level-above, level-least}
-use Rattle.writing.specs.Writing.{below, rising, opposites-from, opposites}
-use Rattle.writing.proofs.RisingLaws.{below-passes, below-fails, below-none-between, OneOfEach, below-no-repeats}
+use Rattle.writing.specs.Writing.{opposites-from, opposites}
 
 -- For values of any size
 
@@ -60,6 +61,15 @@ opposites-later v (x ∷ p) = ap₂ _∷_ (omega arith) (opposites-later (suc v)
 abbrev pub Falsifies : List ℕ → List ℕ → Type 0
 Falsifies p c = (l : ℕ) → l ∈ c → l ∈ opposites p
 
+from-ordered : (v : ℕ) (p : List ℕ) → Every (λ x. x < 2) p → unordered (opposites-from v p) ≡ false
+unfolding opposites-from unordered
+from-ordered v [] values = refl
+from-ordered v (x ∷ p) values =
+    ap₂ _||_
+    (of-none (λ k. leb (variable k) (variable (2 * v + x))) (opposites-from (suc v) p)
+    (λ k m. let (i, h, e) = opposite-found (suc v) p k m in lt-leb (variable k) (variable (2 * v + x)) (omega (arith, values x (List·Memᴰ·head refl)))))
+    (from-ordered (suc v) p (λ y m. values y (List·Memᴰ·tail m)))
+
 module _ (p : List ℕ) (values : Every (λ x. x < 2) p) where
   -- the opposites are the literals that the path falsifies
   pub opposites-iff : (l : ℕ) → (l ∈ opposites p) ↔ FalseLiteral p l
@@ -84,58 +94,12 @@ module _ (p : List ℕ) (values : Every (λ x. x < 2) p) where
   one-false l k (set, is) (set′, is′) e = let same : l % 2 ≡ k % 2 = sym is ∙ ap (λ v. getD p v 0) e ∙ is′ in omega arith
 
   -- so a clause that it falsifies has at most one
-  pub falsified-one-of-each : (c : List ℕ) → Falsifies p c → OneOfEach (λ l. member l c)
-  falsified-one-of-each c falsified l k t u =
-      one-false l k (opposites-iff l .0 (falsified l (member-iff l c .0 t))) (opposites-iff k .0 (falsified k (member-iff k c .0 u)))
+  pub falsified-one-of-each : (c : List ℕ) → Falsifies p c → OneOfEach c
+  falsified-one-of-each c falsified l k m n = one-false l k (opposites-iff l .0 (falsified l m)) (opposites-iff k .0 (falsified k n))
 
-  -- the two literals of a variable of the path: one of them is among the opposites
-  abbrev among : ℕ → Bool
-  among l = member l (opposites p)
-
-  among-true : (l : ℕ) → FalseLiteral p l → among l ≡ true
-  among-true l h = member-iff l (opposites p) .1 (opposites-iff l .1 h)
-
-  among-false : (l : ℕ) → ¬ FalseLiteral p l → among l ≡ false
-  among-false l n = not-member-iff l (opposites p) .1 (λ m. n (opposites-iff l .0 m))
-
-  two-more : (k : ℕ) → k < length p → below (2 * suc k) among ≡ below (2 * k) among ++ ((2 * k + getD p k 0) ∷ [])
-  two-more k h = let e : 2 * suc k ≡ suc (suc (2 * k)) = omega arith in rw e (go (ℕ-discrete (getD p k 0) 0))
-    where
-      literal : (l : ℕ) → variable l ≡ k → getD p k 0 ≡ l % 2 → FalseLiteral p l
-      literal l e is = (omega arith, ap (λ v. getD p v 0) e ∙ is)
-
-      other : (l : ℕ) → variable l ≡ k → ¬ (getD p k 0 ≡ l % 2) → ¬ FalseLiteral p l
-      other l e n f = n (ap (λ v. getD p v 0) (sym e) ∙ f .1)
-
-      go : Dec (getD p k 0 ≡ 0) → below (suc (suc (2 * k))) among ≡ below (2 * k) among ++ ((2 * k + getD p k 0) ∷ [])
-      go (yes e) =
-          below-fails among (suc (2 * k)) (among-false (suc (2 * k)) (other (suc (2 * k)) (omega arith) (λ i. omega arith)))
-          ∙ below-passes among (2 * k) (among-true (2 * k) (literal (2 * k) (omega arith) (omega arith)))
-          ∙ ap (λ l. below (2 * k) among ++ (l ∷ [])) (omega arith)
-      go (no n) =
-          let one : getD p k 0 ≡ 1 = omega (arith, values (getD p k 0) (getD-in p k 0 h)) in
-          below-passes among (suc (2 * k)) (among-true (suc (2 * k)) (literal (suc (2 * k)) (omega arith) (omega arith)))
-          ∙ ap (_++ (suc (2 * k) ∷ [])) (below-fails among (2 * k) (among-false (2 * k) (other (2 * k) (omega arith) (λ i. omega arith))))
-          ∙ ap (λ l. below (2 * k) among ++ (l ∷ [])) (omega arith)
-
-  first-opposites : (k : ℕ) → k ≤ length p → opposites (take k p) ≡ below (2 * k) among
-  unfolding below opposites-from
-  first-opposites zero h = refl
-  first-opposites (suc k) h =
-      ap opposites (take-suc p k 0 (omega arith)) ∙ opposites-append (take k p) (getD p k 0)
-      ∙ rw (length-take-le k p (omega arith), first-opposites k (omega arith)) (sym (two-more k (omega arith)))
-
-  -- they rise
-  pub opposites-rise : (n : ℕ) → length p ≤ n → opposites p ≡ rising n (opposites p)
-  unfolding rising
-  opposites-rise n h =
-      sym (ap opposites (take-length p)) ∙ first-opposites (length p) (omega arith)
-      ∙ sym (below-none-between among (2 * length p) (2 * n) (omega arith) (λ l a b. among-false l (λ f. omega arith)))
-
-  pub opposites-no-repeats : repeats (opposites p) ≡ false
-  unfolding rising
-  opposites-no-repeats =
-      ap repeats (opposites-rise (length p) (omega arith)) ∙ below-no-repeats among (falsified-one-of-each (opposites p) (λ l m. m)) (2 * length p)
+  -- their variables rise
+  pub opposites-ordered : unordered (opposites p) ≡ false
+  opposites-ordered = from-ordered 0 p values
 
   pub opposites-level : level (opposites p) ≡ length p
   opposites-level = le-antisymm (level-least (length p) (opposites p) (λ l m. opposites-iff l .0 m .0)) (go (length p) refl)

@@ -28,7 +28,7 @@ root-closing b = record { value = written-for b .clause .value; whole = whole b 
 derivation-derives : (b : List ℕ) (capacity : ℕ) → Accepted b → Short b capacity → Derives b (derivation-for b) (root-closing b)
 unfolding derivation-for
 derivation-derives b capacity a s =
-    let (proved, closes) = derivation-closes (clauses b) (prefix b) (rw (prefix-length b) (a .in-range)) (a .no-repeats) in
+    let (proved, closes) = derivation-closes (clauses b) (prefix b) (rw (prefix-length b) (a .in-range)) (a .ordered) in
     file-derives b a (written-for b .lines) proved (written-for b .reference) (written-for b .clause .value) closes (s .few-lines) (s .few-bytes)
 
 -- What is written is accepted with the figure

@@ -24,7 +24,7 @@ unfoldable pub too-long : List ℕ → ℕ → Bool
 too-long b capacity =
     ltb capacity (length (derivation-for b)) || ltb max-bytes (length (derivation-for b)) || ltb max-lines (length (written-for b .lines))
 
--- the derivation's bytes for a lent buffer of so many bytes, or 1 to 9 or 22
+-- the derivation's bytes for a lent buffer of so many bytes, or a refusal of the reader or 22
 unfoldable pub derive-file : List ℕ → ℕ → Answer (List ℕ)
 derive-file b capacity = and-then (read-file b) (λ _. refuse-if (too-long b capacity) 22 (answer (derivation-for b)))
 

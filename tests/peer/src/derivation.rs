@@ -1,7 +1,7 @@
 //! The derivation checker: refusals 13 to 21, in order.
 
-use crate::rules::{set_of, Fault, Rules};
-use crate::{level, opposites, to_words, Literals};
+use crate::rules::{is_rising, set_of, Fault, Rules};
+use crate::{level, literals_of, opposites, to_words, Literals};
 
 /// One line as it stands in the file.
 struct Line<'a> {
@@ -63,7 +63,8 @@ pub fn check(rules: &Rules, bytes: &[u8]) -> Result<u128, Fault> {
     let mut sets = Vec::new();
     for (number, line) in lines.iter().enumerate() {
         let large = line.literals.iter().any(|&literal| literal as usize >= 2 * n);
-        let set = if large { None } else { set_of(line.literals) };
+        // Variables that rise do not stand twice.
+        let set = if large || !is_rising(line.literals) { None } else { set_of(line.literals) };
         sets.push(set.ok_or((16, Some(number)))?);
     }
 
@@ -103,7 +104,9 @@ fn judge(rules: &Rules, set: Literals, line: &Line, known: &[Known]) -> Result<u
     if level(true_side) > v + 1 || level(false_side) > v + 1 {
         return Err(19);
     }
-    if set != true_side & !negative | false_side & !positive {
+    // All other literals of the two, rising, each once.
+    let others = literals_of(true_side & !negative | false_side & !positive);
+    if !others.eq(line.literals.iter().copied()) {
         return Err(19);
     }
     let skipped: u128 = rules.prefix[level(set)..v].iter().map(|quantifier| quantifier.total()).product();

@@ -45,9 +45,13 @@ pub fn level(set: Literals) -> usize {
     (64 - set.leading_zeros() as usize).div_ceil(2)
 }
 
-/// The literals of a set, rising.
-pub fn literals_of(set: Literals) -> Vec<u32> {
-    (0..64).filter(|literal| set >> literal & 1 == 1).collect()
+/// The literals of a set, rising, each once.
+pub fn literals_of(mut set: Literals) -> impl Iterator<Item = u32> {
+    std::iter::from_fn(move || {
+        let literal = set.trailing_zeros();
+        set &= set.checked_sub(1)?;
+        Some(literal)
+    })
 }
 
 /// Words, least byte first, as bytes.

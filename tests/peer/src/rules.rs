@@ -1,9 +1,12 @@
-//! The rule-file reader: refusals 1 to 9, in order.
+//! The rule-file reader: refusals 1 to 7, 23, 8 and 9, in this order.
 
 use crate::{to_words, Literals};
 
-/// A refusal's number, with the clause for 5 to 7, the variable for 8 and the line for 15 to 20.
+/// A refusal's number, with the clause for 5 to 7 and 23, the variable for 8 and the line for 15 to 20.
 pub type Fault = (u32, Option<usize>);
+
+/// The reader's refusals, in the order of its checks.
+pub const REFUSALS: [u32; 10] = [1, 2, 3, 4, 5, 6, 7, 23, 8, 9];
 
 /// The largest whole.
 pub const LARGEST_WHOLE: u128 = 1 << 60;
@@ -97,6 +100,9 @@ pub fn read(bytes: &[u8]) -> Result<Rules, Fault> {
     for (clause, list) in lists.iter().enumerate() {
         clauses.push(set_of(list).ok_or((7, Some(clause)))?);
     }
+    if let Some(clause) = lists.iter().position(|list| !is_rising(list)) {
+        return Err((23, Some(clause)));
+    }
 
     let mut prefix = Vec::new();
     for (variable, pair) in pairs.chunks_exact(2).enumerate() {
@@ -133,6 +139,11 @@ pub fn set_of(list: &[u32]) -> Option<Literals> {
         set |= 1u64 << literal;
     }
     Some(set)
+}
+
+/// Whether the variables of these literals rise; then none stands twice.
+pub fn is_rising(list: &[u32]) -> bool {
+    list.is_sorted_by(|before, after| before / 2 < after / 2)
 }
 
 /// The clauses of a rule file in order, each with its literals as they stand, or the file's refusal.

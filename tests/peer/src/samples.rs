@@ -100,10 +100,13 @@ pub fn cases() -> Vec<Case> {
     sample_file(&mut list);
     readings(&mut list);
     places(&mut list);
+    unordered(&mut list);
     orders(&mut list);
     wholes(&mut list);
     levels_and_limits(&mut list);
     derivations(&mut list);
+    unordered_lines(&mut list);
+    resolvents(&mut list);
     many_parents(&mut list);
     many_clauses(&mut list);
     clauses(&mut list);
@@ -117,6 +120,18 @@ fn with(words: &[u32], at: usize, word: u32) -> Vec<u32> {
     let mut words = words.to_vec();
     words[at] = word;
     words
+}
+
+/// The same file with the literals of each clause rising.
+fn sorted(rule: &RuleDraft) -> RuleDraft {
+    let mut rule = rule.clone();
+    rule.clauses.iter_mut().for_each(|clause| clause.sort_unstable());
+    rule
+}
+
+/// The literals of one clause over 32 variables, rising; every second variable stands as its opposite.
+fn all_variables() -> Vec<u32> {
+    (0..32).map(|v| 2 * v + v % 2).collect()
 }
 
 /// Document 01's file and the proved samples.
@@ -226,9 +241,12 @@ fn readings(list: &mut List) {
     list.refused("variable-twice-same", &with(&pair, 2, 0), 7, &[0]);
     list.refused("variable-twice-opposite", &with(&pair, 2, 1), 7, &[0]);
     let rule = RuleDraft::new(&[&[4, 2, 0], &[0, 2, 5]], &[[0, 0]; 3]);
-    list.read("variable-in-two-clauses", &rule.words(), 0, &[3, 2, 8, 1]);
-    let rule = RuleDraft::new(&[&[4, 2, 0], &[0, 2, 1]], &[[0, 0]; 3]);
+    list.read("variable-in-two-clauses", &sorted(&rule).words(), 0, &[3, 2, 8, 1]);
+    list.refused("variable-in-two-clauses-unordered", &rule.words(), 23, &[0]);
+    let rule = RuleDraft::new(&[&[0, 2, 4], &[0, 2, 1]], &[[0, 0]; 3]);
     list.refused("variable-twice-apart", &rule.words(), 7, &[1]);
+    let rule = RuleDraft::new(&[&[4, 2, 0], &[0, 2, 1]], &[[0, 0]; 3]);
+    list.refused("variable-twice-apart-unordered", &rule.words(), 7, &[1]);
 
     // 8: weights.
     let one = |pair| RuleDraft { clauses: vec![vec![0]], prefix: vec![pair] };
@@ -256,7 +274,7 @@ fn readings(list: &mut List) {
     list.refused("whole-largest", &all(32, [65_535, 65_535]).words(), 9, &[]);
 }
 
-/// What 5 to 8 name: the first clause or variable at fault, the last there can be, and the first of several.
+/// What 5 to 8 and 23 name: the first clause or variable at fault, the last there can be, and the first of several.
 fn places(list: &mut List) {
     let rule = |clauses: &[&[u32]]| RuleDraft::new(clauses, &[[0, 0]; 3]);
     // A word too many between the clauses and the prefix.
@@ -307,6 +325,7 @@ fn places(list: &mut List) {
     list.read("end-after-1024", &loose(last(&[0, 3])), 5, &[1_024]);
     list.read("last-of-1024-literal", &last(&[0, 6]), 6, &[1_023]);
     list.read("last-of-1024-variable-twice", &last(&[0, 1]), 7, &[1_023]);
+    list.read("last-of-1024-unordered", &last(&[3, 0]), 23, &[1_023]);
 
     // 8: variables, by their number and not by their word.
     let prefix = |changes: &[(usize, [u32; 2])]| {
@@ -320,6 +339,59 @@ fn places(list: &mut List) {
     list.refused("weights-of-4-9-31", &prefix(&[(9, [0, 7]), (4, [7, 0]), (31, [65_536, 1])]), 8, &[4]);
 }
 
+/// 23 on both sides of its border, what it names, and that each operation tells it before its own refusals.
+fn unordered(list: &mut List) {
+    let rule = |clauses: &[&[u32]]| RuleDraft::new(clauses, &[[0, 0]; 3]);
+    let words = |clauses: &[&[u32]]| rule(clauses).words();
+
+    // The variables decide, whether they stand as themselves or as their opposites.
+    list.read("rising-pair", &words(&[&[0, 2]]), 0, &[3, 1, 3, 1]);
+    list.refused("falling-pair", &words(&[&[2, 0]]), 23, &[0]);
+    list.read("rising-opposites", &words(&[&[1, 3, 5]]), 0, &[3, 1, 4, 1]);
+    list.refused("falling-opposites", &words(&[&[5, 3, 1]]), 23, &[0]);
+    list.read("rising-with-opposites", &words(&[&[1, 2, 5]]), 0, &[3, 1, 4, 1]);
+    list.refused("first-two-exchanged", &words(&[&[2, 1, 5]]), 23, &[0]);
+    list.refused("last-two-exchanged", &words(&[&[1, 5, 2]]), 23, &[0]);
+    list.refused("first-literal-last", &words(&[&[2, 5, 1]]), 23, &[0]);
+    list.refused("last-literal-first", &words(&[&[5, 1, 2]]), 23, &[0]);
+    // A clause of one literal or none is in order, and so are clauses that fall one after another.
+    list.read("units-falling", &words(&[&[5], &[2], &[0]]), 0, &[3, 3, 6, 1]);
+    list.read("empty-between-falling", &words(&[&[4], &[], &[1], &[]]), 0, &[3, 4, 6, 1]);
+    list.read("clauses-falling", &words(&[&[2, 4], &[0, 2]]), 0, &[3, 2, 6, 1]);
+
+    // The first clause out of order is named.
+    list.refused("unordered-clause-0", &words(&[&[3, 0], &[2, 4], &[], &[1], &[3, 5]]), 23, &[0]);
+    list.refused("unordered-clause-1", &words(&[&[0], &[4, 2], &[], &[1], &[3, 5]]), 23, &[1]);
+    list.refused("unordered-clause-4", &words(&[&[0], &[2, 4], &[], &[1], &[5, 3]]), 23, &[4]);
+    list.refused("unordered-clauses-0-4", &words(&[&[3, 0], &[2, 4], &[], &[1], &[5, 3]]), 23, &[0]);
+    list.refused("unordered-clauses-1-3-4", &words(&[&[0], &[4, 2], &[], &[5, 1], &[5, 3]]), 23, &[1]);
+
+    // The longest clause, and its neighbours exchanged at the start, in the middle and at the end.
+    let wide = |literals: &[u32]| RuleDraft { clauses: vec![vec![0], literals.to_vec()], prefix: vec![[1, 1]; 32] };
+    list.read("rising-32", &wide(&all_variables()).words(), 0, &[32, 2, 35, 1 << 32]);
+    for at in [0, 15, 30] {
+        let mut literals = all_variables();
+        literals.swap(at, at + 1);
+        list.refused(&format!("neighbours-{at}-of-32-exchanged"), &wide(&literals).words(), 23, &[1]);
+    }
+
+    // Limits, levels, derivations and buffers, those that would be refused with a sorted file too and those that would
+    // not.
+    let turned = rule(&[&[0, 2], &[3], &[4, 2]]);
+    let steps = sample().1.words();
+    let mut add = |name: &str, operation| list.add(format!("unordered-{name}"), &turned.bytes(), operation, 23, &[2]);
+    add("limits", Operation::Verdict(0, 1));
+    add("hi-over-whole", Operation::Verdict(0, 2));
+    add("level-0", Operation::Cut(0));
+    add("level-n+1", Operation::Cut(4));
+    add("steps-length-0", Operation::Check(Vec::new()));
+    for (name, at, word) in [("14", 41, 43), ("15", 0, 3), ("16", 2, 6), ("17", 4, 4), ("18", 13, 3), ("21", 40, 11)] {
+        add(&format!("steps-{name}"), Operation::Check(to_bytes(&with(&steps, at, word))));
+    }
+    add("buffer-0", Operation::Derive(0));
+    add("buffer-65536", Operation::Derive(65_536));
+}
+
 /// 1,024 clauses over 32 existential variables in exactly 65,536 bytes. Clause {0} decides both
 /// sides of variable 0.
 fn longest_rule() -> RuleDraft {
@@ -330,7 +402,7 @@ fn longest_rule() -> RuleDraft {
     RuleDraft { clauses, prefix: vec![[0, 0]; 32] }
 }
 
-/// Two faults in one file: the lower number is told.
+/// Two faults in one file: the one that is looked for first is told.
 fn orders(list: &mut List) {
     // Words of the file: clauses {0, 2}, {1, 3}; two variables 1:1; trailer at word 10.
     let words = RuleDraft::new(&[&[0, 2], &[1, 3]], &[[1, 1], [1, 1]]).words();
@@ -343,6 +415,13 @@ fn orders(list: &mut List) {
     list.refused("order-5-6", &change(&[(2, 4), (3, 3)]), 5, &[1]);
     list.refused("order-6-7", &change(&[(2, 1), (5, 4)]), 6, &[1]);
     list.refused("order-7-8", &change(&[(5, 0), (6, 65_536)]), 7, &[1]);
+    // 23 stands after 7 and before 8, whichever clause comes first.
+    list.refused("order-5-23", &change(&[(1, 2), (2, 0), (3, 3)]), 5, &[1]);
+    list.refused("order-6-23", &change(&[(2, 4), (4, 3), (5, 1)]), 6, &[0]);
+    list.refused("order-6-23-unordered-first", &change(&[(1, 2), (2, 0), (5, 4)]), 6, &[1]);
+    list.refused("order-7-23", &change(&[(2, 1), (4, 3), (5, 1)]), 7, &[0]);
+    list.refused("order-7-23-unordered-first", &change(&[(1, 2), (2, 0), (5, 0)]), 7, &[1]);
+    list.refused("order-23-8", &change(&[(4, 3), (5, 1), (6, 65_536)]), 23, &[1]);
     let rule = RuleDraft::new(&[], &[[65_535, 65_535], [65_535, 65_535], [65_535, 65_535], [65_535, 65_535], [1, 0]]);
     list.refused("order-8-9", &rule.words(), 8, &[4]);
     // A literal too large in a clause with a variable twice.
@@ -350,6 +429,16 @@ fn orders(list: &mut List) {
     list.refused("order-6-7-one-clause", &rule.words(), 6, &[0]);
     let rule = RuleDraft::new(&[&[0, 0, 5]], &[[0, 0]; 3]);
     list.refused("order-7-beside", &rule.words(), 7, &[0]);
+    // In one clause: a literal too large, or a variable twice, and no rising order.
+    let rule = RuleDraft::new(&[&[6, 2, 0]], &[[0, 0]; 3]);
+    list.refused("order-6-23-one-clause", &rule.words(), 6, &[0]);
+    for (name, clause) in [("apart", &[2, 0, 2][..]), ("beside", &[4, 2, 3]), ("falling", &[1, 0])] {
+        let rule = RuleDraft::new(&[clause], &[[0, 0]; 3]);
+        list.refused(&format!("order-7-23-one-clause-{name}"), &rule.words(), 7, &[0]);
+    }
+    let rule = RuleDraft::new(&[&[0, 2], &[2, 0]], &[[65_535, 65_535]; 4]);
+    list.refused("order-23-9", &rule.words(), 23, &[1]);
+    list.refused("order-23-9-sorted", &sorted(&rule).words(), 9, &[]);
 }
 
 /// The largest whole, 2^60, with numbers at its ends.
@@ -645,16 +734,6 @@ fn derivations(list: &mut List) {
     list.check("closing-2^32-2", &rule, &with(&words, 40, u32::MAX - 1), 21, &[]);
     list.check("order-20-21", &rule, &with(&with(&words, 34, 13), 40, 11), 20, &[4]);
 
-    // A line's literals in another order than its parents'.
-    let mut turned = draft.clone();
-    turned.lines[0].literals = vec![5, 1, 2];
-    turned.lines[1].literals = vec![2, 1];
-    list.check("literals-turned", &rule, &turned.words(), 0, accepted);
-    let mut turned_rule = rule.clone();
-    turned_rule.clauses[0] = vec![2, 0];
-    turned_rule.clauses[2] = vec![4, 2];
-    list.check("clauses-turned", &turned_rule, &words, 0, accepted);
-
     // Lines left unused, before and after; the closing line need not be the last.
     let mut unused = draft.clone();
     unused.lines.push(steps[0].clone());
@@ -696,6 +775,126 @@ fn derivations(list: &mut List) {
     list.check("n-0-kind-2", &falsified, &[2, 0, 0, 0, 0, 0, 0, 1, 1, 10], 18, &[0]);
 }
 
+/// Lines whose literals do not rise: 16, with the first of them.
+fn unordered_lines(list: &mut List) {
+    let (rule, draft) = sample();
+    // Document 01's derivation with other literals in some of its lines.
+    let lines = |changes: &[(usize, &[u32])]| {
+        let mut draft = draft.clone();
+        changes.iter().for_each(|&(line, literals)| draft.lines[line].literals = literals.to_vec());
+        draft
+    };
+    let mut check = |name: &str, changes: &[(usize, &[u32])], line| {
+        list.check(name, &rule, &lines(changes).words(), 16, &[line]);
+    };
+    // Line 0 is of kind 1, line 1 of kind 2.
+    check("line-first-two-exchanged", &[(0, &[2, 1, 5])], 0);
+    check("line-last-two-exchanged", &[(0, &[1, 5, 2])], 0);
+    check("line-falling", &[(0, &[5, 2, 1])], 0);
+    check("line-last-literal-first", &[(0, &[5, 1, 2])], 0);
+    check("line-of-kind-2-exchanged", &[(1, &[2, 1])], 1);
+    check("literals-turned", &[(0, &[5, 1, 2]), (1, &[2, 1])], 0);
+    // The first line with any of the three faults.
+    check("line-3-unordered", &[(3, &[2, 0])], 3);
+    check("line-1-large-3-unordered", &[(1, &[1, 6]), (3, &[2, 0])], 1);
+    check("line-1-unordered-3-large", &[(1, &[2, 1]), (3, &[0, 6])], 1);
+    check("line-1-twice-3-unordered", &[(1, &[1, 0]), (3, &[2, 0])], 1);
+    check("line-1-unordered-3-twice", &[(1, &[2, 1]), (3, &[0, 1])], 1);
+    check("line-large-and-unordered", &[(0, &[6, 1, 2])], 0);
+    check("line-twice-and-unordered", &[(0, &[2, 1, 2])], 0);
+    let mut sorted_lines = lines(&[(0, &[5, 1, 2]), (1, &[2, 1])]);
+    sorted_lines.lines.iter_mut().for_each(|line| line.literals.sort_unstable());
+    list.check("literals-turned-sorted", &rule, &sorted_lines.words(), 0, &[12, 50]);
+    // The rule file's order is told before anything of the derivation.
+    let mut turned = rule.clone();
+    turned.clauses[0] = vec![2, 0];
+    turned.clauses[2] = vec![4, 2];
+    list.check("clauses-turned", &turned, &draft.words(), 23, &[0]);
+    list.check("clauses-and-literals-turned", &turned, &lines(&[(0, &[5, 1, 2])]).words(), 23, &[0]);
+    list.check("clauses-turned-sorted", &sorted(&turned), &draft.words(), 0, &[12, 50]);
+
+    // 14 and 15 stand before it; it covers all lines before line 0 is judged.
+    let exchanged = lines(&[(1, &[2, 1])]).words();
+    list.check("order-14-16-unordered", &rule, &with(&exchanged, 41, 43), 14, &[]);
+    list.check("order-15-16-unordered", &rule, &with(&exchanged, 32, 3), 15, &[4]);
+    list.check("order-16-17-unordered", &rule, &with(&exchanged, 4, 4), 16, &[1]);
+    list.check("order-16-18-unordered", &rule, &with(&lines(&[(3, &[2, 0])]).words(), 13, 3), 16, &[3]);
+    list.check("order-16-19-unordered", &rule, &lines(&[(1, &[1]), (3, &[2, 0])]).words(), 16, &[3]);
+    list.check("order-16-20-unordered", &rule, &with(&exchanged, 5, 2), 16, &[1]);
+    list.check("order-16-21-unordered", &rule, &with(&exchanged, 40, 11), 16, &[1]);
+
+    // The last of 1,024 lines, and the longest line; line 0 closes.
+    let kind_1 = |literals: &[u32]| LineDraft { literals: literals.to_vec(), value: 1, resolved: None };
+    let steps = |lines: &[LineDraft]| DerivationDraft { lines: lines.to_vec(), closing: 1 }.words();
+    let many = |last: &[u32]| {
+        let mut lines = vec![kind_1(&[0, 2]); 1_024];
+        lines[0] = kind_1(&[]);
+        lines[1_023] = kind_1(last);
+        steps(&lines)
+    };
+    let two = RuleDraft::new(&[], &[[0, 0]; 2]);
+    list.check("last-of-1024-lines", &two, &many(&[1, 2]), 0, &[1, 1]);
+    list.check("last-of-1024-lines-unordered", &two, &many(&[2, 1]), 16, &[1_023]);
+    let wide = RuleDraft::new(&[], &[[0, 0]; 32]);
+    let mut literals = all_variables();
+    list.check("line-rising-32", &wide, &steps(&[kind_1(&[]), kind_1(&literals)]), 0, &[1, 1]);
+    literals.swap(30, 31);
+    list.check("line-last-of-32-exchanged", &wide, &steps(&[kind_1(&[]), kind_1(&literals)]), 16, &[1]);
+}
+
+/// The literals of a resolvent: all others of its two parents, rising, each once.
+fn resolvents(list: &mut List) {
+    // One line on variable 4, from clauses 0 and 1 of these literals; clause 2 is empty and closes.
+    let mut check = |name: &str, parents: [&[u32]; 2], literals: &[u32], code, numbers: &[u64]| {
+        let rule = RuleDraft::new(&[parents[0], parents[1], &[]], &[[0, 0]; 6]);
+        let line = LineDraft { literals: literals.to_vec(), value: 0, resolved: Some([4, 0, 2]) };
+        let words = DerivationDraft { lines: vec![line], closing: 4 }.words();
+        list.check(&format!("resolvent-{name}"), &rule, &words, code, numbers);
+    };
+    let accepted: &[u64] = &[0, 1];
+
+    let mixed: [&[u32]; 2] = [&[0, 4, 9], &[2, 6, 8]];
+    check("of-both", mixed, &[0, 2, 4, 6], 0, accepted);
+    check("true-side-first", mixed, &[0, 4, 2, 6], 16, &[0]);
+    check("false-side-first", mixed, &[2, 6, 0, 4], 16, &[0]);
+    check("without-false-side", mixed, &[0, 4], 19, &[0]);
+    check("without-true-side", mixed, &[2, 6], 19, &[0]);
+    check("without-both", mixed, &[], 19, &[0]);
+    check("without-first", mixed, &[2, 4, 6], 19, &[0]);
+    check("without-last", mixed, &[0, 2, 4], 19, &[0]);
+    check("with-v", mixed, &[0, 2, 4, 6, 8], 19, &[0]);
+    check("with-opposite-of-v", mixed, &[0, 2, 4, 6, 9], 19, &[0]);
+    check("with-later", mixed, &[0, 2, 4, 6, 10], 19, &[0]);
+    check("with-opposite", mixed, &[0, 2, 5, 6], 19, &[0]);
+
+    let apart: [&[u32]; 2] = [&[4, 6, 9], &[1, 8]];
+    check("false-side-before", apart, &[1, 4, 6], 0, accepted);
+    check("false-side-before-unordered", apart, &[4, 6, 1], 16, &[0]);
+    check("with-between", apart, &[1, 2, 4, 6], 19, &[0]);
+
+    // A literal of both stands once.
+    let shared: [&[u32]; 2] = [&[0, 3, 9], &[0, 6, 8]];
+    check("shared", shared, &[0, 3, 6], 0, accepted);
+    check("shared-twice", shared, &[0, 0, 3, 6], 16, &[0]);
+    check("without-shared", shared, &[3, 6], 19, &[0]);
+    check("all-shared", [&[0, 3, 9], &[0, 3, 8]], &[0, 3], 0, accepted);
+    check("of-one", [&[9], &[0, 3, 8]], &[0, 3], 0, accepted);
+    check("of-other", [&[0, 3, 9], &[8]], &[0, 3], 0, accepted);
+
+    // Lines 0 and 1 are resolvents on variable 5, line 2 is that of them on variable 4.
+    let rule = RuleDraft::new(&[&[0, 9, 11], &[4, 9, 10], &[2, 8, 11], &[6, 8, 10], &[]], &[[0, 0]; 6]);
+    let line =
+        |literals: &[u32], resolved| LineDraft { literals: literals.to_vec(), value: 0, resolved: Some(resolved) };
+    let steps = |literals: &[u32]| {
+        let lines = vec![line(&[0, 4, 9], [5, 0, 2]), line(&[2, 6, 8], [5, 4, 6]), line(literals, [4, 1, 3])];
+        DerivationDraft { lines, closing: 8 }.words()
+    };
+    list.check("resolvent-of-lines", &rule, &steps(&[0, 2, 4, 6]), 0, accepted);
+    list.check("resolvent-of-lines-unordered", &rule, &steps(&[0, 4, 2, 6]), 16, &[2]);
+    list.check("resolvent-of-lines-without-false-side", &rule, &steps(&[0, 4]), 19, &[2]);
+    list.check("resolvent-of-lines-without-true-side", &rule, &steps(&[2, 6]), 19, &[2]);
+}
+
 /// The clause reader: files that it gives clause by clause.
 fn clauses(list: &mut List) {
     let rule = sample().0;
@@ -704,14 +903,15 @@ fn clauses(list: &mut List) {
     list.clauses("clauses-none-of-32", &RuleDraft::new(&[], &[[0, 0]; 32]), &[]);
     list.clauses("clauses-empty", &RuleDraft::new(&[&[]], &[]), &[0]);
     list.clauses("clauses-empty-between", &RuleDraft::new(&[&[0], &[], &[1]], &[[3, 1]]), &[1, 0, 0, 1, 1]);
-    // Literals in the order in which they stand, and one clause twice.
+    // One clause twice; and literals that fall.
     let turned = RuleDraft::new(&[&[4, 3, 0], &[0, 2], &[0, 2]], &[[0, 0], [1, 1], [2, 3]]);
-    list.clauses("clauses-turned", &turned, &[3, 4, 3, 0, 2, 0, 2, 2, 0, 2]);
-    // One clause of all variables, falling, every second one as its opposite.
-    let literals = |v: u32| 2 * v + v % 2;
-    let wide = RuleDraft { clauses: vec![(0..32).rev().map(literals).collect()], prefix: vec![[1, 1]; 32] };
-    let numbers: Vec<u64> = [32].into_iter().chain((0..32).rev().map(|v| literals(v).into())).collect();
-    list.clauses("clauses-32-literals", &wide, &numbers);
+    list.clauses("clauses-one-twice", &sorted(&turned), &[3, 0, 3, 4, 2, 0, 2, 2, 0, 2]);
+    list.add("clauses-unordered", &turned.bytes(), Operation::Clauses, 23, &[0]);
+    // One clause of all variables, rising and falling.
+    let falling = RuleDraft { clauses: vec![all_variables().into_iter().rev().collect()], prefix: vec![[1, 1]; 32] };
+    let numbers: Vec<u64> = [32].into_iter().chain(all_variables().into_iter().map(u64::from)).collect();
+    list.clauses("clauses-32-literals", &sorted(&falling), &numbers);
+    list.add("clauses-32-literals-falling", &falling.bytes(), Operation::Clauses, 23, &[0]);
     // 1,024 clauses, without literals and with one.
     let empty = RuleDraft { clauses: vec![Vec::new(); 1_024], prefix: Vec::new() };
     list.clauses("clauses-1024-empty", &empty, &[0; 1_024]);
@@ -763,7 +963,8 @@ fn written(list: &mut List) {
     let lines = [&[1, 1, 1, 12, 0][..], &[2, 1, 0, 0, 0, 2, 2, 0], &[2, 0, 12, 0, 0, 1, 3], &[3, 5, 23]];
     list.derived("derive-draw-skipped", &skips, &lines.concat());
 
-    // Clauses with falling literals: a line's literals rise, those of a path and those of two clauses.
+    // A line's literals rise, those of a path and those of two clauses. The same clauses falling are refused, whatever
+    // the buffer's length.
     let falling = RuleDraft::new(&[&[4, 2, 0]], &[[0, 0]; 3]);
     let lines = [
         &[1, 1, 1, 1, 0][..],
@@ -774,10 +975,26 @@ fn written(list: &mut List) {
         &[2, 0, 1, 0, 0, 1, 9],
         &[6, 11, 45],
     ];
-    list.derived("derive-path-rising", &falling, &lines.concat());
+    list.derived("derive-path-rising", &sorted(&falling), &lines.concat());
+    for capacity in [180, 185, 179] {
+        list.add(format!("derive-path-falling-{capacity}"), &falling.bytes(), Operation::Derive(capacity), 23, &[0]);
+    }
     let falling = RuleDraft::new(&[&[4, 2, 0], &[5, 2, 0], &[1], &[3]], &[[0, 0]; 3]);
     let lines = [&[2, 2, 0, 2, 0, 0, 2, 2, 0][..], &[2, 1, 0, 0, 0, 1, 6, 1], &[2, 0, 0, 0, 0, 4, 3], &[3, 5, 27]];
-    list.derived("derive-resolvent-rising", &falling, &lines.concat());
+    list.derived("derive-resolvent-rising", &sorted(&falling), &lines.concat());
+    for capacity in [108, 113, 107] {
+        list.add(
+            format!("derive-resolvent-falling-{capacity}"),
+            &falling.bytes(),
+            Operation::Derive(capacity),
+            23,
+            &[0],
+        );
+    }
+    // The true-side parent's literal stands after the false-side parent's.
+    let turned = RuleDraft::new(&[&[2, 5], &[0, 4], &[1], &[3]], &[[0, 0]; 3]);
+    let lines = [&[2, 2, 0, 2, 0, 0, 2, 0, 2][..], &[2, 1, 0, 0, 0, 1, 6, 1], &[2, 0, 0, 0, 0, 4, 3], &[3, 5, 27]];
+    list.derived("derive-resolvent-false-side-before", &turned, &lines.concat());
 
     // Thirty variables that must be false, of false weight 3: the line of level d has the value 3^(30 - d), over 2^32
     // at the last.

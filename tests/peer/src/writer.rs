@@ -106,7 +106,7 @@ impl<'a> Writer<'a> {
 
     /// Writes a line: its reference, or none if a limit is passed.
     fn write(&mut self, set: Literals, value: u128, resolved: Option<[u32; 3]>) -> Option<u32> {
-        let line = LineDraft { literals: literals_of(set), value: value as u64, resolved };
+        let line = LineDraft { literals: literals_of(set).collect(), value: value as u64, resolved };
         let bytes = self.bytes + 4 * line.word_count();
         if self.lines.len() == self.limits.lines || bytes > self.limits.bytes {
             return None;

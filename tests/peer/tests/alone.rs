@@ -178,6 +178,90 @@ fn derivations_give_the_value() {
     assert!(accepted > 10_000 && damaged > 100, "{accepted} {damaged}");
 }
 
+/// Clauses out of order are refused by 23, with the first of them; 7 stands before it, in any clause, 8 and 9 after it.
+#[test]
+fn unordered_clauses() {
+    let mut random = Random::new(5);
+    let fault = |draft: &RuleDraft| rules::read(&draft.bytes()).err();
+    let mut refused = 0;
+    for _ in 0..6_000 {
+        let mut draft = generate::small_rule(&mut random, 7);
+        let Some(first) = generate::unorder(&mut random, draft.clauses.iter_mut()) else {
+            continue;
+        };
+        refused += 1;
+        assert_eq!(fault(&draft), Some((23, Some(first))), "{draft:?}");
+        let n = draft.prefix.len();
+        let mut weights = draft.clone();
+        weights.prefix[random.below(n)] = [0, 1];
+        assert_eq!(fault(&weights), Some((23, Some(first))), "{weights:?}");
+        weights.prefix.fill([65_535, 65_535]);
+        assert_eq!(fault(&weights), Some((23, Some(first))), "{weights:?}");
+
+        let mut twice = draft.clone();
+        let at = random.below(twice.clauses.len());
+        let clause = &mut twice.clauses[at];
+        let twin = random.below(2) as u32;
+        match clause[..] {
+            [] => clause.extend([0, twin]),
+            [.., last] if clause.len() < n => clause.push(last ^ twin),
+            _ => clause[0] = clause[1] ^ twin,
+        }
+        assert_eq!(fault(&twice), Some((7, Some(at))), "{twice:?}");
+
+        draft.clauses.iter_mut().for_each(|clause| clause.sort_unstable());
+        assert_eq!(fault(&draft), None, "{draft:?}");
+    }
+    assert!(refused > 2_000, "{refused} files refused");
+}
+
+/// Lines out of order are refused by 16, with the first of them; a resolvent that has a literal less, one more or one
+/// turned to its opposite, by 19.
+#[test]
+fn literals_of_lines() {
+    let mut random = Random::new(6);
+    let (mut unordered, mut less, mut more) = (0, 0, 0);
+    for _ in 0..6_000 {
+        let rules = rules_of(&generate::small_rule(&mut random, 6));
+        let draft = generate::free_derivation(&mut random, &rules, Limits::for_buffer(65_536)).unwrap();
+        let fault = |draft: &DerivationDraft| derivation::check(&rules, &draft.bytes()).err();
+        let mut turned = draft.clone();
+        if let Some(line) = generate::unorder(&mut random, turned.lines.iter_mut().map(|line| &mut line.literals)) {
+            assert_eq!(fault(&turned), Some((16, Some(line))), "{turned:?}");
+            unordered += 1;
+        }
+        let resolvents: Vec<usize> = (0..draft.lines.len()).filter(|&at| draft.lines[at].resolved.is_some()).collect();
+        if resolvents.is_empty() {
+            continue;
+        }
+        let line = random.pick(&resolvents);
+        let literals = &draft.lines[line].literals;
+        let with = |literals: Vec<u32>| {
+            let mut draft = draft.clone();
+            draft.lines[line].literals = literals;
+            draft
+        };
+        if !literals.is_empty() {
+            let at = random.below(literals.len());
+            let mut changed = literals.clone();
+            changed[at] ^= 1;
+            assert_eq!(fault(&with(changed.clone())), Some((19, Some(line))), "{draft:?}");
+            changed.remove(at);
+            assert_eq!(fault(&with(changed)), Some((19, Some(line))), "{draft:?}");
+            less += 1;
+        }
+        let literal = random.below(2 * rules.n()) as u32;
+        if literals.iter().all(|other| other / 2 != literal / 2) {
+            let mut changed = literals.clone();
+            changed.push(literal);
+            changed.sort_unstable();
+            assert_eq!(fault(&with(changed)), Some((19, Some(line))), "{draft:?}");
+            more += 1;
+        }
+    }
+    assert!(unordered > 2_000 && less > 2_000 && more > 1_000, "{unordered} {less} {more}");
+}
+
 /// The wrong programs of document 01 that have a derivation are told apart.
 #[test]
 fn skipped_totals_count() {
@@ -187,7 +271,7 @@ fn skipped_totals_count() {
     let line = |literals: &[u32], value, resolved| LineDraft { literals: literals.to_vec(), value, resolved };
     let lines = vec![
         line(&[1, 5], 1, None),
-        line(&[4, 1], 1, None),
+        line(&[1, 4], 1, None),
         line(&[1], 14, Some([2, 1, 3])),
         line(&[], 42, Some([0, 5, 0])),
     ];

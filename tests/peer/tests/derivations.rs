@@ -5,7 +5,7 @@
 #[allow(dead_code)]
 mod common;
 
-use common::{random, rounds, Pair, CHECK, DERIVE};
+use common::{random, rounds, Pair, CHECK, DERIVE, NAMING};
 use peer::answer::{Answer, Solver};
 use peer::generate::{self, RuleDraft};
 use peer::random::Random;
@@ -20,10 +20,12 @@ fn file(random: &mut Random, most: usize) -> (Vec<u8>, Result<Rules, Fault>) {
     (bytes, rules)
 }
 
-/// Valid derivations, each also with one word changed and with each fault put into it.
+/// Valid derivations, each also with one word changed, with each fault put into it, and with lines put out of order.
 #[test]
 fn accepted_and_near() {
     let (mut random, mut pair) = (random(201), Pair::new());
+    // Derivations refused for the order of a line alone: of line 0, and of a later one.
+    let mut unordered = [0; 2];
     for _ in 0..rounds(20_000) {
         let (rule, rules) = file(&mut random, 6);
         let solver = Solver::new(&rules);
@@ -33,7 +35,7 @@ fn accepted_and_near() {
         let plain = writer::derivation(rules, limits).unwrap();
         let free = generate::free_derivation(&mut random, rules, limits).unwrap();
         let drafts = if random.once_in(4) { vec![plain, free] } else { vec![free] };
-        for draft in drafts {
+        for mut draft in drafts {
             let bytes = draft.bytes();
             let got = pair.check(&mut random, &rule, &solver, &bytes);
             assert_eq!(got, solver.figure(), "an accepted derivation closes with the value");
@@ -51,12 +53,20 @@ fn accepted_and_near() {
                 }
                 pair.check(&mut random, &rule, &solver, &to_bytes(&words));
             }
+            let literals = draft.lines.iter_mut().map(|line| &mut line.literals);
+            if let Some(line) = generate::unorder(&mut random, literals) {
+                let got = pair.check(&mut random, &rule, &solver, &draft.bytes());
+                assert_eq!(got, Answer::refused((16, Some(line))), "{draft:?}");
+                unordered[line.min(1)] += 1;
+            }
         }
     }
     pair.report("accepted_and_near");
+    println!("  line 0 out of order, a later one: {unordered:?}");
     pair.reached(CHECK, [0], 30_000);
     pair.reached(CHECK, 13..=21, 500);
     pair.named_later(CHECK, 15..=20, 300);
+    assert!(unordered.iter().all(|count| *count >= 1_000), "line 0 out of order, a later one: {unordered:?}");
 }
 
 /// Every word of document 01's derivation, and of others, changed to each of many words.
@@ -65,7 +75,7 @@ fn changed_words() {
     let (mut random, mut pair) = (random(202), Pair::new());
     let (rule, derivation) = generate::sample();
     let mut files = vec![(rule.bytes(), derivation.words())];
-    while files.len() < rounds(40) {
+    while files.len() < rounds(80) {
         let (rule, rules) = file(&mut random, 4);
         let limits = Limits { bytes: 65_536, lines: 16 };
         let draft = generate::free_derivation(&mut random, &rules.unwrap(), limits);
@@ -130,7 +140,7 @@ fn refused_rule_files() {
     let (mut random, mut pair) = (random(204), Pair::new());
     let derivation = generate::sample().1.bytes();
     for _ in 0..rounds(20_000) {
-        let fault = random.within(1, 9) as u32;
+        let fault = random.pick(&rules::REFUSALS);
         let rule = generate::faulty_rule(&mut random, &[fault]);
         let rules = rules::read(&rule);
         let solver = Solver::new(&rules);
@@ -142,8 +152,8 @@ fn refused_rule_files() {
         pair.check(&mut random, &rule, &solver, &derivation);
     }
     pair.report("refused_rule_files");
-    pair.reached(CHECK, 1..=9, 100);
-    pair.named_later(CHECK, 5..=8, 100);
+    pair.reached(CHECK, rules::REFUSALS, 100);
+    pair.named_later(CHECK, NAMING, 100);
 }
 
 /// Derivations of up to 1,024 lines and 65,536 bytes, and some beyond.

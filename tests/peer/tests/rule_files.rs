@@ -5,9 +5,10 @@
 #[allow(dead_code)]
 mod common;
 
-use common::{random, rounds, Pair, CHECK, CUT, DERIVE, FIGURE, READ, VERDICT};
+use common::{random, rounds, Pair, CHECK, CUT, DERIVE, FIGURE, NAMING, READ, VERDICT};
 use peer::ffi::{plain, Place};
 use peer::generate::{self, RuleDraft};
+use peer::rules;
 use peer::writer::{DerivationDraft, LineDraft};
 use peer::{to_bytes, to_words};
 
@@ -56,8 +57,8 @@ fn long_files() {
         pair.read(&mut random, &bytes);
     }
     pair.report("long_files");
-    pair.reached(READ, [0, 1, 2, 3, 4, 5, 6, 7, 8], 1);
-    pair.named_later(READ, 5..=8, 1);
+    pair.reached(READ, [0, 1, 2, 3, 4, 5, 6, 7, 23, 8], 1);
+    pair.named_later(READ, NAMING, 1);
     pair.reached(FIGURE, [0], 60);
     pair.reached(DERIVE, [0, 22], 60);
 }
@@ -89,16 +90,17 @@ fn damaged_files() {
     }
     pair.report("damaged_files");
     for operation in [READ, FIGURE, VERDICT, CUT, DERIVE] {
-        pair.reached(operation, 0..=8, 50);
+        pair.reached(operation, [0, 1, 2, 3, 4, 5, 6, 7, 23, 8], 50);
+        pair.named_later(operation, [23], 50);
     }
 }
 
-/// Files with one fault or several, each of 1 to 9 reached by each operation.
+/// Files with one fault or several, each of the reader's refusals reached by each operation.
 #[test]
 fn faulty_files() {
     let (mut random, mut pair) = (random(104), Pair::new());
     for _ in 0..rounds(50_000) {
-        let mut faults: Vec<u32> = (1..=9).collect();
+        let mut faults = rules::REFUSALS.to_vec();
         random.shuffle(&mut faults);
         faults.truncate(random.pick(&[1, 1, 1, 2, 3]));
         let bytes = generate::faulty_rule(&mut random, &faults);
@@ -106,9 +108,37 @@ fn faulty_files() {
     }
     pair.report("faulty_files");
     for operation in [READ, FIGURE, VERDICT, CUT, DERIVE] {
-        pair.reached(operation, 0..=9, 300);
-        pair.named_later(operation, 5..=8, 300);
+        pair.reached(operation, [0], 300);
+        pair.reached(operation, rules::REFUSALS, 300);
+        pair.named_later(operation, NAMING, 300);
     }
+}
+
+/// Accepted files with clauses put out of order: 23 names the first of them, wherever it stands.
+#[test]
+fn unordered_files() {
+    let (mut random, mut pair) = (random(110), Pair::new());
+    let (mut last, mut far, mut made) = (0, 0, 0);
+    while made < rounds(10_000) {
+        let mut draft =
+            if random.once_in(50) { generate::long_rule(&mut random) } else { generate::small_rule(&mut random, 7) };
+        let Some(first) = generate::unorder(&mut random, draft.clauses.iter_mut()) else {
+            continue;
+        };
+        made += 1;
+        let bytes = draft.bytes();
+        assert_eq!(rules::read(&bytes).err(), Some((23, Some(first))), "{draft:?}");
+        pair.rule(&mut random, &bytes);
+        last += u64::from(first > 0 && first + 1 == draft.clauses.len());
+        far += u64::from(first > 255);
+    }
+    pair.report("unordered_files");
+    println!("  the last of several clauses: {last}, a clause after 255: {far}");
+    for operation in [READ, FIGURE, VERDICT, CUT, DERIVE] {
+        pair.reached(operation, [23], 10_000);
+        pair.named_later(operation, [23], 3_000);
+    }
+    assert!(last >= 1_000 && far >= 50, "the last of several clauses {last}, a clause after 255 {far} times");
 }
 
 #[test]
@@ -120,6 +150,7 @@ fn noise() {
     }
     pair.report("noise");
     pair.reached(READ, [0, 1, 3, 4, 5, 7, 8], 10);
+    pair.reached(READ, [23], 1);
 }
 
 /// Files cut at every byte; and at every word, with the last word set right again.
@@ -173,7 +204,7 @@ fn changed_words() {
         }
     }
     pair.report("changed_words");
-    pair.reached(READ, [0, 2, 3, 4, 5, 6, 7, 8], 10);
+    pair.reached(READ, [0, 2, 3, 4, 5, 6, 7, 23, 8], 10);
 }
 
 /// The same on pages that may only be read: a write would end the process.

@@ -20,11 +20,11 @@ fn program() {
     assert!(lines == include_str!("../../../crates/run_samples/stdout"), "stdout is not as made");
 }
 
-/// Every number from 0 to 22 is among the answers.
+/// Every number from 0 to 23 is among the answers.
 #[test]
 fn every_number() {
     let cases = samples::cases();
-    for code in 0..=22 {
+    for code in 0..=23 {
         assert!(cases.iter().any(|case| case.expected.code == code), "no case for {code}");
     }
 }

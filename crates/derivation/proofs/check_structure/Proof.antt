@@ -71,7 +71,7 @@ literal-fault-requires c κs =
     let s = c .before .before .before .before .before .before .before .before in
     let n = ap (λ h. h .variables) (s .pre .1 .0) in
     let count = c .before .before .before .before .before .word .ensures .0 in
-    (rw n (s .pre .0 .few-variables), (rw (n, count) (walked (c .before)), (rw count (s .pre .1 .1 .few-lines), lines-kept (c .before))))
+    (rw (n, count) (walked (c .before)), (rw count (s .pre .1 .1 .few-lines), lines-kept (c .before)))
 
 returns-2 : tie.Need-returns-2
 unfolding check-from-15

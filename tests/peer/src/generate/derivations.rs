@@ -1,6 +1,6 @@
 //! Derivations, valid and damaged.
 
-use super::{damage_length, harmful};
+use super::{damage_length, harmful, unorder};
 use crate::random::Random;
 use crate::rules::{set_of, Rules};
 use crate::writer::{DerivationDraft, Limits, LineDraft, Node, Writer};
@@ -19,7 +19,8 @@ impl Freedom {
     /// The literals of a kind 1 line, as many as are kept.
     fn kept(self, writer: &Writer, mut set: Literals) -> Literals {
         if self.trim {
-            for literal in literals_of(set).into_iter().rev() {
+            let literals: Vec<u32> = literals_of(set).collect();
+            for literal in literals.into_iter().rev() {
                 if writer.is_blocking(set & !(1 << literal)) {
                     set &= !(1 << literal);
                 }
@@ -68,8 +69,8 @@ impl Freedom {
     }
 }
 
-/// An acceptable derivation with some freedom: literals in any order, lines that serve twice
-/// or not at all. None if it passes a limit.
+/// An acceptable derivation with some freedom: kind 1 lines without needless literals, lines that serve twice or not at
+/// all. None if it passes a limit.
 pub fn free_derivation(random: &mut Random, rules: &Rules, limits: Limits) -> Option<DerivationDraft> {
     let mut writer = Writer::new(rules, limits);
     let freedom = Freedom { reuse: random.once_in(2), trim: random.once_in(2) };
@@ -82,13 +83,7 @@ pub fn free_derivation(random: &mut Random, rules: &Rules, limits: Limits) -> Op
         let count = random.within(0, 12);
         freedom.wander(random, &mut writer, count);
     }
-    let mut draft = writer.finish(closing);
-    if random.once_in(2) {
-        for line in &mut draft.lines {
-            random.shuffle(&mut line.literals);
-        }
-    }
-    Some(draft)
+    Some(writer.finish(closing))
 }
 
 /// Adds a line that resolves two parents, taken at random, on any variable: its literals and
@@ -116,8 +111,21 @@ fn add_loose_line(random: &mut Random, rules: &Rules, draft: &mut DerivationDraf
         value = value.wrapping_mul(rules.rest[level(set)] / rules.rest[v]);
     }
     let resolved = Some([v as u32, on_true, on_false]);
-    draft.lines.push(LineDraft { literals: literals_of(set), value: value as u64, resolved });
+    draft.lines.push(LineDraft { literals: literals_of(set).collect(), value: value as u64, resolved });
     Some(())
+}
+
+/// The literals of one parent of a kind 2 line, without the variable that is resolved.
+fn of_one_parent(random: &mut Random, rules: &Rules, draft: &DerivationDraft, line: usize) -> Option<Vec<u32>> {
+    let [v, on_true, on_false] = draft.lines[line].resolved?;
+    let reference = if random.once_in(2) { on_true } else { on_false };
+    let number = (reference / 2) as usize;
+    let set = if reference.is_multiple_of(2) {
+        *rules.clauses.get(number)?
+    } else {
+        set_of(&draft.lines.get(number)?.literals)?
+    };
+    Some(literals_of(set).filter(|literal| literal / 2 != v).collect())
 }
 
 /// Puts a fault of the given number (15 to 21) into a draft, as far as its shape allows. The
@@ -130,6 +138,9 @@ pub fn faulty_derivation(random: &mut Random, rules: &Rules, draft: &mut Derivat
         (0..count).filter(|&at| draft.lines[at].resolved.is_some() == (kind == 2)).collect()
     };
     match fault {
+        16 if random.once_in(3) => {
+            unorder(random, draft.lines.iter_mut().map(|line| &mut line.literals));
+        }
         16 if count > 0 && n > 0 => {
             let line = &mut draft.lines[random.below(count)];
             let near = 2 * n + random.below(70) as u32;
@@ -147,6 +158,15 @@ pub fn faulty_derivation(random: &mut Random, rules: &Rules, draft: &mut Derivat
         19 if random.once_in(2) => {
             for _ in 0..random.within(1, 4) {
                 add_loose_line(random, rules, draft);
+            }
+        }
+        19 if random.once_in(4) => {
+            let lines = of_kind(2, draft);
+            if !lines.is_empty() {
+                let at = random.pick(&lines);
+                if let Some(literals) = of_one_parent(random, rules, draft, at) {
+                    draft.lines[at].literals = literals;
+                }
             }
         }
         17 | 19 => {
@@ -171,6 +191,8 @@ pub fn faulty_derivation(random: &mut Random, rules: &Rules, draft: &mut Derivat
                         }
                     }
                 }
+                // In order, so that it is not the order's fault.
+                line.literals.sort_unstable();
                 // Sometimes the value fits the new level, so that it is not the value's fault.
                 if fault == 17 && random.once_in(2) {
                     let set = set_of(&line.literals).filter(|set| level(*set) <= rules.n());

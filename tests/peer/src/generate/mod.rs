@@ -55,6 +55,33 @@ pub fn sample() -> (RuleDraft, DerivationDraft) {
     (rule, DerivationDraft { lines, closing: 9 })
 }
 
+/// Puts one or more of these lists, whose literals rise, out of order and gives the first that it took; none if no list
+/// has two literals.
+pub fn unorder<'a>(random: &mut Random, lists: impl Iterator<Item = &'a mut Vec<u32>>) -> Option<usize> {
+    let mut long: Vec<(usize, &mut Vec<u32>)> = lists.enumerate().filter(|(_, list)| list.len() > 1).collect();
+    let mut numbers = Vec::new();
+    while !long.is_empty() && (numbers.is_empty() || random.once_in(3)) {
+        let (number, list) = long.remove(often_at_an_end(random, long.len()));
+        let at = often_at_an_end(random, list.len() - 1);
+        match random.below(4) {
+            0 => list.reverse(),
+            1 => list.rotate_left(at + 1),
+            _ => list.swap(at, at + 1),
+        }
+        numbers.push(number);
+    }
+    numbers.into_iter().min()
+}
+
+/// A number from 0 to `count - 1`, often the first or the last of them.
+fn often_at_an_end(random: &mut Random, count: usize) -> usize {
+    match random.below(4) {
+        0 => 0,
+        1 => count - 1,
+        _ => random.below(count),
+    }
+}
+
 /// A word that is likely to do harm in place of `old`.
 fn harmful(random: &mut Random, old: u32) -> u32 {
     match random.below(10) {

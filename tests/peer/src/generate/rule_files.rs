@@ -1,6 +1,6 @@
 //! Random rule files, valid and damaged.
 
-use super::{damage_length, harmful, RuleDraft};
+use super::{damage_length, harmful, unorder, RuleDraft};
 use crate::random::Random;
 use crate::rules::LARGEST_WHOLE;
 use crate::{to_bytes, to_words};
@@ -55,8 +55,8 @@ pub fn whole(pairs: &[[u32; 2]]) -> u128 {
     pairs.iter().fold(1, |product, pair| if product > LARGEST_WHOLE { product } else { product * total(pair) })
 }
 
-/// A clause of `k` different variables.
-pub fn clause(random: &mut Random, n: usize, k: usize) -> Vec<u32> {
+/// Literals of `k` different variables, half of the time rising, else in any order.
+fn literals(random: &mut Random, n: usize, k: usize) -> Vec<u32> {
     let mut variables: Vec<u32> = (0..n as u32).collect();
     random.shuffle(&mut variables);
     variables.truncate(k);
@@ -64,6 +64,13 @@ pub fn clause(random: &mut Random, n: usize, k: usize) -> Vec<u32> {
         variables.sort_unstable();
     }
     variables.iter().map(|v| 2 * v + random.below(2) as u32).collect()
+}
+
+/// A clause of `k` different variables, rising.
+pub fn clause(random: &mut Random, n: usize, k: usize) -> Vec<u32> {
+    let mut clause = literals(random, n, k);
+    clause.sort_unstable();
+    clause
 }
 
 /// A valid rule file of `n` variables and `m` clauses, most of them short.
@@ -166,8 +173,10 @@ pub fn damage_rule(random: &mut Random, bytes: &mut Vec<u8>) {
                 words[end - 4] = words[end - 4].wrapping_add(change);
             }
         }
+        // Two words exchanged, often neighbours.
         6 => {
-            let (a, b) = (random.below(count), random.below(count));
+            let a = random.below(count);
+            let b = if random.once_in(2) { (a + 1) % count } else { random.below(count) };
             words.swap(a, b);
         }
         // One word copied over another.
@@ -179,7 +188,7 @@ pub fn damage_rule(random: &mut Random, bytes: &mut Vec<u8>) {
     *bytes = to_bytes(&words);
 }
 
-/// A rule file with the faults of the given numbers (1 to 9), as far as its shape allows.
+/// A rule file with the faults of the given numbers, all of them the reader's, as far as its shape allows.
 pub fn faulty_rule(random: &mut Random, faults: &[u32]) -> Vec<u8> {
     let n = random.within(0, 9);
     let m = random.within(0, 2 * n + 2);
@@ -214,6 +223,18 @@ pub fn faulty_rule(random: &mut Random, faults: &[u32]) -> Vec<u8> {
             ]);
         }
     }
+    if has(23) && m > 0 && n > 1 {
+        // At least one clause of two literals: a shorter one is never out of order.
+        let k = random.within(2, n);
+        draft.clauses[random.below(m)] = clause(random, n, k);
+        if random.once_in(4) {
+            for clause in &mut draft.clauses {
+                *clause = literals(random, n, clause.len());
+            }
+        } else {
+            unorder(random, draft.clauses.iter_mut());
+        }
+    }
     if has(7) && m > 0 && n > 1 {
         for _ in 0..times {
             let clause = &mut draft.clauses[random.below(m)];
@@ -226,8 +247,10 @@ pub fn faulty_rule(random: &mut Random, faults: &[u32]) -> Vec<u8> {
             } else {
                 clause[0] = clause[1] ^ random.below(2) as u32;
             }
-            if random.once_in(2) {
-                random.shuffle(clause);
+            match random.below(4) {
+                0 => clause.sort_unstable(),
+                1 | 2 => random.shuffle(clause),
+                _ => {}
             }
         }
     }
@@ -236,10 +259,11 @@ pub fn faulty_rule(random: &mut Random, faults: &[u32]) -> Vec<u8> {
             let clause = &mut draft.clauses[random.below(m)];
             let near = bound + random.below(70) as u32;
             let large = random.pick(&[bound, bound + 1, near, 1 << 31, u32::MAX]);
+            let at = random.below(clause.len() + 1);
             if clause.len() < n && random.once_in(2) {
-                clause.push(large);
-            } else if let Some(literal) = clause.last_mut() {
-                *literal = large;
+                clause.insert(at, large);
+            } else if let Some(last) = clause.len().checked_sub(1) {
+                clause[at.min(last)] = large;
             }
         }
     }

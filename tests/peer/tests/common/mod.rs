@@ -13,17 +13,23 @@ pub const CHECK: usize = 4;
 pub const DERIVE: usize = 5;
 const NAMES: [&str; 6] = ["read", "figure", "verdict", "cut", "check", "derive"];
 
+/// One more than the highest number that is returned.
+const NUMBERS: usize = 24;
+
+/// The reader's refusals that name a clause or a variable.
+pub const NAMING: [u32; 5] = [5, 6, 7, 23, 8];
+
 /// Files whose tree has more nodes times clauses than this are read but not solved.
 const MOST_STEPS: u128 = 2_000_000;
 
 pub struct Pair {
     pub library: Library,
     /// How often each operation returned each number.
-    pub counts: [[u64; 23]; 6],
+    pub counts: [[u64; NUMBERS]; 6],
     /// How often a verdict was within, above and below.
     pub verdicts: [u64; 3],
     /// How often each operation's refusals named a clause, variable or line after the first.
-    pub later: [[u64; 23]; 6],
+    pub later: [[u64; NUMBERS]; 6],
 }
 
 /// The number of rounds, times the variable PEER_ROUNDS if it is set.
@@ -47,7 +53,7 @@ fn place(random: &mut Random) -> Place {
 
 impl Pair {
     pub fn new() -> Pair {
-        Pair { library: Library::new(), counts: [[0; 23]; 6], verdicts: [0; 3], later: [[0; 23]; 6] }
+        Pair { library: Library::new(), counts: [[0; NUMBERS]; 6], verdicts: [0; 3], later: [[0; NUMBERS]; 6] }
     }
 
     /// Fails unless the call returned the peer's answer.
@@ -166,18 +172,18 @@ impl Pair {
     }
 
     /// Fails unless the operation returned each of these numbers at least `least` times.
-    pub fn reached(&self, operation: usize, numbers: impl IntoIterator<Item = usize>, least: u64) {
+    pub fn reached(&self, operation: usize, numbers: impl IntoIterator<Item = u32>, least: u64) {
         for number in numbers {
-            let count = self.counts[operation][number];
+            let count = self.counts[operation][number as usize];
             assert!(count >= least, "{} returned {number} only {count} times", NAMES[operation]);
         }
     }
 
     /// Fails unless the operation's refusals by each of these numbers named a place after the first at least `least`
     /// times.
-    pub fn named_later(&self, operation: usize, numbers: impl IntoIterator<Item = usize>, least: u64) {
+    pub fn named_later(&self, operation: usize, numbers: impl IntoIterator<Item = u32>, least: u64) {
         for number in numbers {
-            let count = self.later[operation][number];
+            let count = self.later[operation][number as usize];
             assert!(count >= least, "{} named a place after 0 with {number} only {count} times", NAMES[operation]);
         }
     }

@@ -23,11 +23,11 @@ abbrev μ-loop : tie.MeasureT-loop
 
 -- the start kept is where the line at hand stands
 here : (c : tie.After-start-at Inv-loop μ-loop) → c .start-at .result ≡ line-start (c .before .before .before .before .args .derivation .now) (c .before .before .loop .line)
-here c = c .start-at .ensures .0 ∙ c .before .before .before .before .pre .1 .1 .1 .each _ (c .before .loop-test .taken)
+here c = c .start-at .ensures .0 ∙ c .before .before .before .before .pre .1 .1 .each _ (c .before .loop-test .taken)
 
 -- which ends before the trailer
 within : (c : tie.After-start-at Inv-loop μ-loop) → let d = c .before .before .before .before .args .derivation .now in after-line d (c .start-at .result) ≤ trailer-start d
-within c = rw (here c) (line-within _ _ _ _ (c .before .before .before .before .pre .1 .0) _ (c .before .loop-test .taken))
+within c = rw (here c) (line-within _ _ _ _ (c .before .before .before .before .pre .0) _ (c .before .loop-test .taken))
 
 loop-holds : tie.Need-loop-holds Inv-loop μ-loop
 loop-holds c = (omega arith, rw (sub-zero, start-zero) (from-zero _))
@@ -36,7 +36,7 @@ start-at-requires : tie.Need-start-at-requires Inv-loop μ-loop
 start-at-requires c κs = omega arith
 
 line-fails-requires : tie.Need-line-fails-requires Inv-loop μ-loop
-line-fails-requires c κs = (omega (arith, within c), omega arith)
+line-fails-requires c κs = omega (arith, within c)
 
 returns : tie.Need-returns Inv-loop μ-loop
 returns c =

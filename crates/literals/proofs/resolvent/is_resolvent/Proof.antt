@@ -15,12 +15,12 @@ use Rattle.literals.proofs.resolvent.is_resolvent.Tie as tie
 returns : tie.Need-returns
 returns c =
     let f = c .before .fits in
-    resolvent-by-sets _ _ _ _ (f .s .fits) (f .t .fits) (f .c .fits) false (λ e. absurd (false≢true e), λ h. absurd (c .if1 .taken (h .0)))
+    resolvent-by-sets _ _ _ _ (f .s .fits) (f .t .fits) false (λ e. absurd (false≢true e), λ h. absurd (c .if1 .taken (h .0)))
 
 returns-2 : tie.Need-returns-2
 returns-2 c =
     let f = c .before .before .fits in
-    resolvent-by-sets _ _ _ _ (f .s .fits) (f .t .fits) (f .c .fits) false (λ e. absurd (false≢true e), λ h. absurd (c .if2 .taken (h .1 .0)))
+    resolvent-by-sets _ _ _ _ (f .s .fits) (f .t .fits) false (λ e. absurd (false≢true e), λ h. absurd (c .if2 .taken (h .1 .0)))
 
 -- the bit of the first literal of v
 bit-is : (c : tie.Else2) → let k = 2 * c .before .before .args .v in 1 * 2 ^ k % 2 ^ 64 ≡ 2 ^ k
@@ -33,7 +33,7 @@ returns-3 : tie.Need-returns-3
 returns-3 c =
     let f = c .before .before .fits in
     rw (bit-is c)
-    (resolvent-by-sets _ _ _ _ (f .s .fits) (f .t .fits) (f .c .fits) _ (λ e. (c .before .if1 .left, (c .if2 .left, eqb-true _ _ e)), λ h. eq-eqb _ _ (h .1 .1)))
+    (resolvent-by-sets _ _ _ _ (f .s .fits) (f .t .fits) _ (λ e. (c .before .if1 .left, (c .if2 .left, eqb-true _ _ e)), λ h. eq-eqb _ _ (h .1 .1)))
 
 pub is-resolvent-spec : {M : Type 1} → statement M
 is-resolvent-spec =

@@ -3,7 +3,7 @@ use Prim.Native.Nat.{_≤_}
 use native.Mathlib.Omega.{arith}
 use lib.Count.{ones, ones-le}
 use borrow.Author.Tests.{le-leb, lt-leb}
-use Rattle.writer.proofs.MemberLaws.{length-members}
+use Rattle.bit_set.proofs.MemberLaws.{length-members}
 use Rattle.writer.proofs.line.fits.Statement.{statement}
 use Rattle.writer.proofs.line.fits.Tie as tie
 

@@ -9,8 +9,8 @@ use borrow.Author.Needs.{needs}
 use Rattle.buffer.specs.Bytes.{word-bytes}
 use Rattle.buffer.proofs.BytesLaws.{length-bytes-of}
 use Rattle.buffer.proofs.TextLaws.{put-first-word, put-words-after, put-word-after}
-use Rattle.writer.specs.Writer.{members}
-use Rattle.writer.proofs.MemberLaws.{length-members}
+use Rattle.bit_set.specs.BitSet.{members}
+use Rattle.bit_set.proofs.MemberLaws.{length-members}
 use Rattle.writer.proofs.line.put_clause.Statement.{statement}
 use Rattle.writer.proofs.line.put_clause.Tie as tie
 

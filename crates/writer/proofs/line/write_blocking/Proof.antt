@@ -9,8 +9,8 @@ use borrow.Author.Tests.{not-true}
 use Rattle.resolution.specs.Resolution.{Annotated, blocking}
 use Rattle.writing.specs.File.{line-words}
 use Rattle.writing.proofs.ReadLaws.{length-blocking}
-use Rattle.writer.specs.Writer.{members}
-use Rattle.writer.proofs.MemberLaws.{mask-members}
+use Rattle.bit_set.specs.BitSet.{members}
+use Rattle.bit_set.proofs.MemberLaws.{mask-members}
 use Rattle.writer.proofs.LineLaws.{Room, room-is, trailer-fits, exceeds-more, outcome-more}
 use Rattle.writer.proofs.line.write_blocking.Statement.{statement}
 use Rattle.writer.proofs.line.write_blocking.Tie as tie

@@ -15,8 +15,8 @@ use Rattle.buffer.proofs.TextLaws.{put-first-word, put-word-after, put-words-af
 use Rattle.resolution.specs.Resolution.{Annotated, resolvent}
 use Rattle.writing.specs.File.{clause-words, line-words}
 use Rattle.writing.proofs.ReadLaws.{length-clause-words, length-resolvent}
-use Rattle.writer.specs.Writer.{members}
-use Rattle.writer.proofs.MemberLaws.{mask-members}
+use Rattle.bit_set.specs.BitSet.{members}
+use Rattle.bit_set.proofs.MemberLaws.{mask-members}
 use Rattle.writer.proofs.LineLaws.{Room, room-is, trailer-fits, exceeds-more, outcome-more}
 use Rattle.writer.proofs.line.write_resolvent.Statement.{statement}
 use Rattle.writer.proofs.line.write_resolvent.Tie as tie

@@ -1,17 +1,15 @@
 -- The tests on lists, as statements on membership. Assumes nothing.
 use Prim.Native.Nat.{ℕ, zero, suc, _*_, _<_}
 use native.Mathlib.Nat.{not-suc-le-zero, le-of-suc-le-suc}
-use mathlib.Core.Path.{_≡_, refl, sym, _∙_}
-use mathlib.Core.Logic.{_⊎_, inl, inr, ⊎-elim, ⊎-map, _↔_, _≢_}
-use mathlib.Core.Bool.{Bool, true, false, cond, _&&_, _||_, or-true, false≢true}
-use mathlib.Core.List.{List, [], _∷_, _++_, List·Memᴰ·head, List·Memᴰ·tail, List·Memᴰ·not-nil, List·Memᴰ·cases-cons}
-use mathlib.Core.List.{Memᴰ·cast, Memᴰ·append-left, Memᴰ·append-right, List·Memᴰ·append-cases}
+use mathlib.Core.Path.{_≡_, refl}
+use mathlib.Core.Logic.{_⊎_, inl, inr, ⊎-elim, _↔_}
+use mathlib.Core.Bool.{Bool, true, false, _&&_, _||_, or-true, false≢true}
+use mathlib.Core.List.{List, [], _∷_, List·Memᴰ·head, List·Memᴰ·tail, Memᴰ·cast}
 use lib.ListN.{length, getD}
 use lib.Dec.{eqb, leb}
 use borrow.Author.Tests.{eqb-true, eqb-false, eq-eqb, ne-eqb, leb-false, lt-leb}
-use Rattle.formula.specs.Formula.{some-of, member, all-of, out-of-range}
+use Rattle.formula.specs.Formula.{some-of, _∈_, member, all-of, out-of-range}
 use Rattle.formula.proofs.SomeLaws.{none-first, none-rest}
-use Rattle.resolution.specs.Resolution.{_∈_, without}
 
 pub and-iff : (a b : Bool) → (a && b ≡ true) ↔ ((a ≡ true) × (b ≡ true))
 and-iff true b = (λ e. (refl, e), λ e. e .1)
@@ -82,25 +80,3 @@ member-iff l c = (
 
 pub not-member-iff : (l : ℕ) (c : List ℕ) → (member l c ≡ false) ↔ (¬ (l ∈ c))
 not-member-iff l c = (λ e m. eqb-false l l (none-of (eqb l) e m) refl, λ n. of-none (eqb l) c (λ k m. ne-eqb l k (λ e. n (Memᴰ·cast e m))))
-
-without-iff : (l k : ℕ) (c : List ℕ) → (l ∈ without k c) ↔ ((l ∈ c) × (l ≢ k))
-unfolding without
-without-iff l k [] = (λ m. (m, absurd (List·Memᴰ·not-nil m)), λ h. h .0)
-without-iff l k (j ∷ c) = go (eqb j k) refl (without-iff l k c)
-  where
-    go : (b : Bool) → eqb j k ≡ b → (l ∈ without k c) ↔ ((l ∈ c) × (l ≢ k))
-        → (l ∈ cond b (without k c) (j ∷ without k c)) ↔ ((l ∈ j ∷ c) × (l ≢ k))
-    go true e ih = (
-      λ m. (List·Memᴰ·tail (ih .0 m .0), ih .0 m .1),
-      λ h. ⊎-elim (λ g. absurd (h .1 (g ∙ eqb-true j k e))) (λ m. ih .1 (m, h .1)) (List·Memᴰ·cases-cons (h .0)),
-    )
-    go false e ih = (
-      λ m. ⊎-elim (λ g. (List·Memᴰ·head g, λ n. eqb-false j k e (sym g ∙ n))) (λ m. (List·Memᴰ·tail (ih .0 m .0), ih .0 m .1)) (List·Memᴰ·cases-cons m),
-      λ h. ⊎-elim (λ g. List·Memᴰ·head g) (λ m. List·Memᴰ·tail (ih .1 (m, h .1))) (List·Memᴰ·cases-cons (h .0)),
-    )
-
-pub remainder-iff : (l a b : ℕ) (s t : List ℕ) → (l ∈ without a s ++ without b t) ↔ (((l ∈ s) × (l ≢ a)) ⊎ ((l ∈ t) × (l ≢ b)))
-remainder-iff l a b s t = (
-  λ m. ⊎-map (without-iff l a s .0) (without-iff l b t .0) (List·Memᴰ·append-cases (without a s) m),
-  ⊎-elim (λ h. Memᴰ·append-left (without b t) (without-iff l a s .1 h)) (λ h. Memᴰ·append-right (without a s) (without-iff l b t .1 h)),
-)
