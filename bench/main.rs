@@ -4,8 +4,9 @@
 //!     cargo bench --manifest-path tests/peer/Cargo.toml
 //!
 //! The proved solver runs in a thread with a stack of 1 MiB. "Nodes" are those of the plain tree
-//! that stops at decided nodes, counted by the peer. The peer solves each file in two ways:
-//! "walk" visits the same tree, "tables" shares nodes with the same undetermined clauses.
+//! that stops where all clauses are satisfied, one is falsified or two clash, counted by the peer;
+//! the proved solver may visit fewer. The peer solves each file in two ways: "walk" visits that
+//! tree, unless it is too large, "tables" shares nodes with the same undetermined clauses.
 
 #[cfg(feature = "no-ffi")]
 fn main() {
@@ -31,8 +32,8 @@ mod bench {
     use std::time::Instant;
 
     const STACK: usize = 1 << 20;
-    /// A file that would take the proved solver longer than this many seconds is left out.
-    const LONGEST: f64 = 120.0;
+    /// The peer does not walk a tree of more nodes than this.
+    const MOST_WALKED: u128 = 10_000_000;
 
     /// Seconds for one run: the least of several runs.
     fn seconds(mut run: impl FnMut()) -> f64 {
@@ -83,7 +84,9 @@ mod bench {
     /// A ratio, with about three figures.
     fn ratio(a: f64, b: f64) -> String {
         let ratio = a / b;
-        let places = if ratio < 10.0 {
+        let places = if ratio < 0.01 {
+            4
+        } else if ratio < 10.0 {
             2
         } else if ratio < 100.0 {
             1
@@ -143,9 +146,17 @@ mod bench {
         RuleDraft { clauses, prefix }
     }
 
+    /// One clause of one literal, on the last variable: it decides no node before level n.
+    fn last_clause(n: usize) -> RuleDraft {
+        RuleDraft {
+            clauses: vec![vec![2 * (n as u32 - 1)]],
+            prefix: vec![[0, 0]; n],
+        }
+    }
+
     type Family = (&'static str, fn(usize) -> RuleDraft);
 
-    const FAMILIES: [Family; 5] = [
+    const FAMILIES: [Family; 6] = [
         ("3-clauses, alternating", |n| {
             three_clauses(1_000, n, |v| v % 2 == 1)
         }),
@@ -155,39 +166,30 @@ mod bench {
         ("all randomized", |n| three_clauses(3_000, n, |_| true)),
         ("all existential", |n| three_clauses(4_000, n, |_| false)),
         ("placement", placement),
+        ("one clause, on the last", last_clause),
     ];
 
     fn trees() {
         println!("| family | n | m | operation | nodes | proved, ms | ns a node | walk, ms | proved / walk | tables, ms | proved / tables | stack, bytes |");
         println!("|---|--:|--:|---|--:|--:|--:|--:|--:|--:|--:|--:|");
         for (name, make) in FAMILIES {
-            let mut last = 0.0;
             for n in [16, 20, 24, 28, 32] {
                 let file = make(n).bytes();
                 let rules = rules_of(&file);
                 let tables = Tables::new(&rules);
                 for level in [None, Some(n / 2)] {
-                    let nodes = tables.nodes(level.unwrap_or(n)) as f64;
+                    let nodes = tables.nodes(level.unwrap_or(n));
                     let operation =
                         level.map_or("figure".to_string(), |level| format!("cut {level}"));
-                    let m = rules.clauses.len();
-                    let begin = format!("| {name} | {n} | {m} | {operation} | {nodes} |");
-                    if last * nodes * m as f64 > LONGEST {
-                        println!(
-                            "{begin} left out: about {:.0} s | | | | | | |",
-                            last * nodes * m as f64
-                        );
-                        continue;
-                    }
-                    let run = tree(&file, level);
-                    // Seconds for one clause at one node, to judge the next file by.
-                    last = run.proved / (nodes * m as f64);
+                    let run = tree(&file, level, nodes <= MOST_WALKED);
+                    let walk = run.walk.map_or("- | -".to_string(), |walk| {
+                        [ms(walk), ratio(run.proved, walk)].join(" | ")
+                    });
                     println!(
-                        "{begin} {} | {:.0} | {} | {} | {} | {} | {} |",
+                        "| {name} | {n} | {} | {operation} | {nodes} | {} | {:.0} | {walk} | {} | {} | {} |",
+                        rules.clauses.len(),
                         ms(run.proved),
-                        run.proved * 1e9 / nodes,
-                        ms(run.walk),
-                        ratio(run.proved, run.walk),
+                        run.proved * 1e9 / nodes as f64,
                         ms(run.tables),
                         ratio(run.proved, run.tables),
                         run.stack
@@ -199,13 +201,14 @@ mod bench {
 
     struct Run {
         proved: f64,
-        walk: f64,
+        /// None if the tree is not walked.
+        walk: Option<f64>,
         tables: f64,
         stack: usize,
     }
 
     /// Times the figure, or the cut at a level, and compares the answers.
-    fn tree(file: &[u8], level: Option<usize>) -> Run {
+    fn tree(file: &[u8], level: Option<usize>, walked: bool) -> Run {
         let mut got = (0, [0; 4]);
         let mut call = || {
             got = match level {
@@ -214,21 +217,23 @@ mod bench {
             }
         };
         let (proved, stack) = seconds_on_stack(&mut call);
-        let walk = seconds(|| {
+        let walk = || {
             let rules = rules_of(black_box(file));
             let numbers = match level {
                 None => [walk::value(&rules).0, rules.whole() as u64, 0],
                 Some(level) => walk::cut(&rules, level).0,
             };
             assert_eq!(got, (0, [numbers[0], numbers[1], numbers[2], 0]));
-        });
+        };
+        let walk = walked.then(|| seconds(walk));
         let tables = seconds(|| {
             let rules = rules_of(black_box(file));
             let numbers = match level {
                 None => [Tables::new(&rules).value(), rules.whole(), 0],
                 Some(level) => Tables::down_to(&rules, level).cut(level),
             };
-            assert_eq!(got.1[..3], numbers.map(|number| number as u64));
+            let numbers = numbers.map(|number| number as u64);
+            assert_eq!(got, (0, [numbers[0], numbers[1], numbers[2], 0]));
         });
         Run {
             proved,
@@ -363,10 +368,6 @@ mod bench {
             clauses: (0..1_024).map(literals).collect(),
             prefix: vec![[1, 1]; 10],
         };
-        let last = RuleDraft {
-            clauses: vec![vec![62]],
-            prefix: vec![[0, 0]; 32],
-        };
         [
             ("the sample", generate::sample().0),
             ("3-clauses", walked().0),
@@ -375,7 +376,7 @@ mod bench {
                 RuleDraft::new(&[&[16], &[18]], &[[1, 1]; 10]),
             ),
             ("all clauses of ten literals", ten),
-            ("refused by 22", last),
+            ("refused by 22", last_clause(32)),
         ]
     }
 

@@ -76,6 +76,8 @@ uint32_t ssat_figure(const uint8_t *rule, size_t len, uint64_t out[4]);
 uint32_t ssat_verdict(const uint8_t *rule, size_t len, uint64_t lo, uint64_t hi, uint64_t out[4]);
 
 /* Bounds on the value with only the first `level` variables set.
+ * A way to set them in which two clauses without a true literal have one unset literal each, a variable and its
+ * opposite, counts as lost.
  * out: lower number, upper number, open weight, 0; all out of the whole.
  * Refusals: 1 to 9, 23, 12. */
 uint32_t ssat_cut(const uint8_t *rule, size_t len, uint64_t level, uint64_t out[4]);

@@ -2,7 +2,7 @@
 -- k on; and the two lowest digits with what follows them. Assumes nothing.
 use mathlib.Core.Path.{_≡_, sym, ap, ap₂, _∙_}
 use mathlib.Core.Bool.{true, false, not, _||_, false≢true}
-use Prim.Native.Nat.{ℕ, suc, _+_, _-_, _*_, _/_, _%_, _^_, _≤_, _<_}
+use Prim.Native.Nat.{ℕ, suc, _+_, _-_, _*_, _/_, _%_, _^_, _≤_, _<_, min}
 use native.Mathlib.Nat.{one-mul, zero-mul, pow-suc, mod-lt, zero-mod, mod-eq-of-lt, div-add-mod', div-eq-of-lt, pow-le-pow-right}
 use native.Mathlib.Decide.{ℕ-discrete, decLt}
 use native.Mathlib.Omega.{arith}
@@ -10,9 +10,9 @@ use lib.Pow.{pow-pos, pow-lt, pow-add, shl-shr}
 use lib.Bits.{bitAnd, bitOr, and-zero-r, and-comm, and-shifted, and-mask, and-le-r, and-block, and-high}
 use lib.Dec.{leb, eqb}
 use borrow.Author.Tests.{ne-eqb, le-leb, lt-leb}
-use Rattle.bit_set.specs.BitSet.{has}
+use Rattle.bit_set.specs.BitSet.{has, from}
 use Rattle.bit_set.proofs.BitLaws.{and-or}
-use Rattle.bit_set.proofs.BitSetLaws.{union-empty}
+use Rattle.bit_set.proofs.BitSetLaws.{has-none, union-empty}
 
 pub has-union : (a b x : ℕ) → has (bitOr a b) x ≡ has a x || has b x
 unfolding has
@@ -68,6 +68,19 @@ has-from j k x h = rw (and-comm (2 ^ (j + k) - 2 ^ k) (2 ^ x), and-high (2 ^ x) 
         let f : 2 ^ x / 2 ^ k ≡ 2 ^ (x - k) = ap (λ n. 2 ^ n / 2 ^ k) e ∙ rw (pow-add 2 (x - k) k) (shl-shr (2 ^ (x - k)) k) in
         let g : 2 ^ (x - k) * 2 ^ k ≡ 2 ^ x = sym (pow-add 2 (x - k) k) ∙ ap (2 ^_) (sym e) in
         rw (f, mod-eq-of-lt (pow-lt {i = x - k} {j = j} (omega arith)), g, ne-eqb (2 ^ x) 0 (λ z. omega (arith, pow-pos x)), le-leb k x (omega arith))
+
+-- and of the numbers under 64
+pub from-has : (k x : ℕ) → x < 64 → has (from k) x ≡ leb k x
+from-has k x h = go (decLt k 64)
+  where
+    go : Dec (k < 64) → has (from k) x ≡ leb k x
+    go (yes l) =
+        let is : min k 64 ≡ k = omega arith in
+        let e : 64 ≡ 64 - k + k = omega arith in
+        ap (λ n. has n x) (ap₂ (λ (m n : ℕ). 2 ^ m - 2 ^ n) e is) ∙ has-from (64 - k) k x (omega arith)
+    go (no l) =
+        let is : min k 64 ≡ 64 = omega arith in
+        ap (λ n. has n x) (ap (λ n. 2 ^ 64 - 2 ^ n) is) ∙ has-none x ∙ sym (lt-leb k x (omega arith))
 
 -- the two digits d, and then the set m
 module _ (d m : ℕ) (h : d < 4) where

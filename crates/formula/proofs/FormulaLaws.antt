@@ -63,16 +63,16 @@ satisfied-by-each p (c ∷ φ) each =
 
 -- what the laws of the tree ask of a node's status
 abbrev pub OnlyRefines : (List ℕ → Status) → Type 0
-OnlyRefines status = (p : List ℕ) (x : ℕ) → Refines (status p) (status (p ++ (x ∷ [])))
+OnlyRefines status = (p : List ℕ) (x : ℕ) → x < 2 → Refines (status p) (status (p ++ (x ∷ [])))
 
 pub formula-only-refines : (φ : List (List ℕ)) → OnlyRefines (λ p. formula-status p φ)
-formula-only-refines φ p x = formula-refines p (x ∷ []) φ
+formula-only-refines φ p x _ = formula-refines p (x ∷ []) φ
 
 -- every literal is below 2n: its variable is one of the first n
 abbrev pub InRange : ℕ → List (List ℕ) → Type 0
 InRange n φ = some-of (out-of-range n) φ ≡ false
 
-set-decided : (b : Bool) → Decided (cond b Falsified Satisfied)
+pub set-decided : (b : Bool) → Decided (cond b Falsified Satisfied)
 set-decided true = refl
 set-decided false = refl
 

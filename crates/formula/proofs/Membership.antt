@@ -1,7 +1,7 @@
 -- The tests on lists, as statements on membership. Assumes nothing.
 use Prim.Native.Nat.{ℕ, zero, suc, _*_, _<_}
 use native.Mathlib.Nat.{not-suc-le-zero, le-of-suc-le-suc}
-use mathlib.Core.Path.{_≡_, refl}
+use mathlib.Core.Path.{_≡_, refl, ap₂}
 use mathlib.Core.Logic.{_⊎_, inl, inr, ⊎-elim, _↔_}
 use mathlib.Core.Bool.{Bool, true, false, _&&_, _||_, or-true, false≢true}
 use mathlib.Core.List.{List, [], _∷_, List·Memᴰ·head, List·Memᴰ·tail, Memᴰ·cast}
@@ -58,6 +58,12 @@ module _ {A : Type 0} (f : A → Bool) where
   unfolding some-of
   of-none [] h = refl
   of-none (y ∷ ys) h = rw (h y (List·Memᴰ·head refl)) (of-none ys (λ x m. h x (List·Memᴰ·tail m)))
+
+-- tests that agree on the elements
+pub some-of-same : {A : Type 0} (f g : A → Bool) (xs : List A) → ((x : A) → x ∈ xs → f x ≡ g x) → some-of f xs ≡ some-of g xs
+unfolding some-of
+some-of-same f g [] h = refl
+some-of-same f g (x ∷ xs) h = ap₂ _||_ (h x (List·Memᴰ·head refl)) (some-of-same f g xs (λ y m. h y (List·Memᴰ·tail m)))
 
 -- a clause over n variables has literals under 2n
 pub in-range-iff : (n : ℕ) (c : List ℕ) → (out-of-range n c ≡ false) ↔ ((l : ℕ) → l ∈ c → l < 2 * n)

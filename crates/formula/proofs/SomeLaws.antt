@@ -1,12 +1,12 @@
 -- The answers of tests; then tests over a list. First as a loop takes them, one element at a time, where ys is what is
--- left: some-of, repeats. Then a test that no element passes, by the elements' places, and of an appended list. Not
--- here: a test as a statement on the elements (Membership). Assumes nothing.
+-- left: some-of, repeats. Then a test that no element passes, by the elements' places, and of an appended or a mapped
+-- list. Not here: a test as a statement on the elements (Membership). Assumes nothing.
 use Prim.Native.Nat.{ℕ, suc, _<_}
 use native.Mathlib.Omega.{arith}
 use mathlib.Core.Path.{_≡_, refl, ap, sym, _∙_}
 use mathlib.Core.Logic.{_↔_}
 use mathlib.Core.Bool.{Bool, true, false, true≢false, not, _||_, or-assoc}
-use mathlib.Core.List.{List, [], _∷_, _++_}
+use mathlib.Core.List.{List, [], _∷_, _++_, map}
 use lib.ListN.{length, getD}
 use borrow.Author.Tests.{not-true, not-false}
 use Rattle.formula.specs.Formula.{some-of, all-of, repeats}
@@ -16,6 +16,11 @@ pub same-truth : {s t : Bool} → (s ≡ true) ↔ (t ≡ true) → s ≡ t
 same-truth {s = true} e = sym (e .0 refl)
 same-truth {s = false} {t = true} e = e .1 refl
 same-truth {s = false} {t = false} e = refl
+
+pub or-swap : (r s t : Bool) → r || (s || t) ≡ s || (r || t)
+or-swap true true t = refl
+or-swap true false t = refl
+or-swap false s t = refl
 
 -- a test t whose answer r is branched on by its negation
 module _ {r t : Bool} (e : r ≡ t) where
@@ -81,3 +86,8 @@ pub some-of-append : {A : Type 0} (f : A → Bool) (xs ys : List A) → some-of 
 unfolding some-of
 some-of-append f [] ys = refl
 some-of-append f (x ∷ xs) ys = ap (f x ||_) (some-of-append f xs ys) ∙ sym (or-assoc (f x) (some-of f xs) (some-of f ys))
+
+pub some-of-map : {A B : Type 0} (f : B → Bool) (g : A → B) (xs : List A) → some-of f (map g xs) ≡ some-of (λ x. f (g x)) xs
+unfolding some-of
+some-of-map f g [] = refl
+some-of-map f g (x ∷ xs) = ap (f (g x) ||_) (some-of-map f g xs)

@@ -3,13 +3,13 @@
 -- opposite. A clause is a list of literals, a formula a list of clauses. An assignment lists the values of variables 0,
 -- 1, .. in prefix order, 1 for true and 0 for false. A variable past its end is unset.
 use Prim.Native.Nat.{ℕ, _+_, _-_, _*_, _/_, _%_, _<_}
-use mathlib.Core.Bool.{Bool, true, false, cond, _&&_, _||_}
+use mathlib.Core.Bool.{Bool, true, false, cond, not, _&&_, _||_}
 use mathlib.Core.List.{List, [], _∷_, List·Memᴰ}
 use lib.ListN.{length, getD}
 use lib.Dec.{leb, ltb, eqb}
 use Rattle.formula.specs.declared.Status.{Status}
 use Rattle.formula.specs.declared.Status.the-variants.{Falsified, Undetermined, Satisfied}
-use Rattle.formula.specs.Status.{either, both}
+use Rattle.formula.specs.Status.{either, both, is-satisfied, is-undetermined}
 
 abbrev pub variable : ℕ → ℕ
 variable l = l / 2
@@ -94,3 +94,21 @@ equal [] [] = true
 equal [] (k ∷ ks) = false
 equal (l ∷ ls) [] = false
 equal (l ∷ ls) (k ∷ ks) = eqb l k && equal ls ks
+
+-- the literals of the clause whose variables are unset
+unfoldable pub unset-literals : List ℕ → List ℕ → List ℕ
+unset-literals p [] = []
+unset-literals p (l ∷ ls) = cond (is-undetermined (literal-status p l)) (l ∷ unset-literals p ls) (unset-literals p ls)
+
+-- whether the clause has no true literal and exactly one unset literal, l
+unfoldable pub is-unit : List ℕ → ℕ → List ℕ → Bool
+is-unit p l c = not (is-satisfied (clause-status p c)) && (member l (unset-literals p c) && all-of (eqb l) (unset-literals p c))
+
+-- whether two clauses have no true literal and exactly one unset literal each, which are a variable and its opposite:
+-- nothing satisfies both
+unfoldable pub clash : List ℕ → List (List ℕ) → Bool
+clash p φ = some-of (λ c. some-of (λ l. is-unit p l c && some-of (is-unit p (opposite l)) φ) c) φ
+
+-- the status of a node in the cut: a clash is lost too
+unfoldable pub node-status : List ℕ → List (List ℕ) → Status
+node-status p φ = cond (clash p φ) Falsified (formula-status p φ)

@@ -1,4 +1,4 @@
--- The meaning of a stochastic Boolean formula, over lists: statuses, literals and clauses, document 01's words for a
+-- The meaning of a stochastic Boolean formula, over lists: statuses, literals and clauses, the documents' words for a
 -- node, quantifiers, the tree of assignments.
 pub mod Status
 pub mod Formula

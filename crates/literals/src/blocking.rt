@@ -1,11 +1,11 @@
 // Rule R.2's test on sets: each clause of the formula contains the opposite of some literal of c.
 use crate::occurrence::OCCURRENCES;
 use bit_set::ALL;
+use bit_set::from;
 ghost use mathlib.Core.Path.{_≡_};
 ghost use mathlib.Core.Bool.{_||_};
 ghost use mathlib.Core.List.{List};
-ghost use Prim.Native.Nat.{ℕ, _+_, _^_, _≤_, _<_};
-ghost use lib.Dec.{leb};
+ghost use Prim.Native.Nat.{ℕ, _+_, _≤_};
 ghost use lib.ListN.{length, getD};
 ghost use Rattle.formula.specs.Formula.{opposite, some-of};
 ghost use Rattle.bit_set.specs.BitSet.{has, mask};
@@ -34,17 +34,6 @@ fn opposed(table: &[u64; OCCURRENCES], words: usize, c: u64, seen: u64) -> u64
         left = left & (left - 1);
     }
     set
-}
-
-// Of 64 numbers those from `count` on.
-fn from(count: usize) -> u64
-    ensures { λ r. ⌜ ((h : ℕ) → h < 64 → has r h ≡ leb count h) ⌝ }
-{
-    if 64 <= count {
-        return 0;
-    }
-    let one: u64 = 1;
-    ALL - ((one << count) - 1)
 }
 
 // Whether each of the clauses, whose occurrences are in the table, contains the opposite of some literal of c: 64

@@ -1,7 +1,7 @@
 -- Every sample's question has its outcome, computed. Assumes nothing.
 use mathlib.Core.Path.{_≡_, refl}
 use mathlib.Core.List.{map}
-use Rattle.formula.specs.Formula.{literal-status, clause-status, formula-status, some-of, out-of-range, repeats, unordered, ill-formed, insert-once, rising, equal, all-of}
+use Rattle.formula.specs.Formula.{literal-status, clause-status, formula-status, some-of, out-of-range, repeats, unordered, ill-formed, insert-once, rising, equal, all-of, unset-literals, is-unit, clash, node-status}
 use Rattle.formula.specs.Quantifier.{denominator}
 use Rattle.formula.specs.Tree.{value, evaluate}
 use Rattle.buffer.specs.Bytes.{word-bytes, bytes-of}
@@ -21,6 +21,7 @@ use Rattle.samples.specs.Samples.{Sample, ask, samples}
 
 pub samples-hold : map (λ (s : Sample). ask (s .question)) samples ≡ map (λ (s : Sample). s .outcome) samples
 unfolding literal-status clause-status formula-status some-of all-of out-of-range repeats unordered ill-formed insert-once rising equal
+    unset-literals is-unit clash node-status
     denominator value evaluate
     bytes-of word-bytes elements first walk word wrong-length quantifier
     wrong-count too-many wrong-prefix clause-fits malformed too-large read-from-8 read-from-6 read-from-5 read-from-3 read-file

@@ -1,7 +1,7 @@
 -- All that the program prints for document 01's example file, and for two files that are refused with a place. Assumes
 -- nothing.
 use mathlib.Core.Path.{_≡_, refl}
-use Rattle.formula.specs.Formula.{literal-status, clause-status, formula-status, some-of, out-of-range, repeats, unordered}
+use Rattle.formula.specs.Formula.{literal-status, clause-status, formula-status, some-of, all-of, out-of-range, repeats, unordered, unset-literals, is-unit, clash, node-status}
 use Rattle.formula.specs.Quantifier.{denominator}
 use Rattle.formula.specs.Tree.{value, evaluate}
 use Rattle.buffer.specs.Bytes.{word-bytes, bytes-of}
@@ -15,11 +15,11 @@ use Rattle.samples.specs.Samples.{example, variable-twice, not-rising}
 
 pub example-text :
     report-text (bytes-of example)
-    ≡ ascii "vars 3\nclauses 3\nwhole 50\nvalue 12\ncut 0 0 50 50\ncut 1 0 50 50\ncut 2 0 40 40\ncut 3 12 12 0\n"
+    ≡ ascii "vars 3\nclauses 3\nwhole 50\nvalue 12\ncut 0 0 50 50\ncut 1 0 40 40\ncut 2 0 40 40\ncut 3 12 12 0\n"
 unfolding report-text accepted-text head-text cut-lines cut-line line after-blanks decimal decimal-by ascii bytes-of word-bytes
     read-file read-from-3 read-from-5 read-from-6 read-from-8 wrong-length wrong-count too-many wrong-prefix walk clause-fits first malformed too-large
     elements word quantifier out-of-range repeats unordered some-of
-    denominator value evaluate literal-status clause-status formula-status
+    denominator value evaluate literal-status clause-status formula-status all-of unset-literals is-unit clash node-status
 example-text = refl
 
 pub refusal-text : report-text (bytes-of variable-twice) ≡ ascii "refused 7 1\n"

@@ -1,6 +1,6 @@
--- Document 01's samples P1 to P12, the places that document 02 (i) adds to refusals, the derivations that (ii) writes
--- and the order that (iv) asks for, in one list: each a question to an operation, and the answer that it must give.
--- Assumes nothing.
+-- Document 01's samples P1 to P12, the places that document 02 (i) adds to refusals, the derivations that (ii) writes,
+-- the order that (iv) asks for and the nodes that (v) calls lost, in one list: each a question to an operation, and the
+-- answer that it must give. Assumes nothing.
 use mathlib.Core.List.{List, [], _∷_}
 use Prim.Native.Nat.{ℕ}
 use Rattle.buffer.specs.Bytes.{bytes-of}
@@ -39,6 +39,10 @@ ask (derive ws capacity) = written (derive-file (bytes-of ws) capacity)
 -- a figure out of a whole
 abbrev out-of : ℕ → ℕ → Outcome
 out-of x w = figured (answer (record { figure = x; whole = w }))
+
+-- lower number, upper number and open weight
+abbrev between : ℕ → ℕ → ℕ → Outcome
+between l u o = bounded (answer (record { lower = l; upper = u; undetermined = o }))
 
 -- a refusal of number k that names the clause or variable i
 abbrev refused-at : ℕ → ℕ → Outcome
@@ -97,7 +101,7 @@ samples =
     sample (verdict example 13 50) (judged (answer below)) ∷
     sample (verdict example 0 11) (judged (answer above)) ∷
     -- P11: its cut at level 2
-    sample (cut example 2) (bounded (answer (record { lower = 0; upper = 40; undetermined = 40 }))) ∷
+    sample (cut example 2) (between 0 40 40) ∷
     -- P12: its derivation
     sample (check example derivation) (checked (answer (record { value = 12; whole = 50 }))) ∷
     -- 5: clause 1 has two literals over one variable; clause 2 stands past the prefix start; the walk ends before it
@@ -124,4 +128,12 @@ samples =
     sample (check example (derivation-with 1 2 2 1)) (checked (refused (At 16 1))) ∷
     sample (check example (derivation-with 2 1 2 1)) (checked (refused (At 16 0))) ∷
     sample (check example (derivation-with 1 2 1 3)) (checked (refused (At 19 1))) ∷
+    -- a clash: the example where variable 0 is false; {0} and {1} over a draw
+    sample (cut example 1) (between 0 40 40) ∷
+    sample (cut (1 ∷ 0 ∷ 1 ∷ 1 ∷ 3 ∷ 1 ∷ 2 ∷ 1 ∷ 4 ∷ 10 ∷ []) 0) (between 0 0 0) ∷
+    -- none: two unset literals, in {0, 2}, and {1}; the same sign, in {0, 2} and {2} where variable 0 is false; a
+    -- satisfied clause, {0, 2} or {1, 3}
+    sample (cut (2 ∷ 0 ∷ 2 ∷ 1 ∷ 1 ∷ 0 ∷ 0 ∷ 0 ∷ 0 ∷ 2 ∷ 2 ∷ 5 ∷ 13 ∷ []) 0) (between 0 1 1) ∷
+    sample (cut (2 ∷ 0 ∷ 2 ∷ 1 ∷ 2 ∷ 1 ∷ 1 ∷ 0 ∷ 0 ∷ 2 ∷ 2 ∷ 5 ∷ 13 ∷ []) 1) (between 0 2 2) ∷
+    sample (cut (2 ∷ 0 ∷ 2 ∷ 2 ∷ 1 ∷ 3 ∷ 1 ∷ 1 ∷ 0 ∷ 0 ∷ 2 ∷ 2 ∷ 6 ∷ 14 ∷ []) 1) (between 0 2 2) ∷
     []

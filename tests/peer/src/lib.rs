@@ -24,6 +24,7 @@ pub mod enumerate;
 pub mod ffi;
 pub mod generate;
 pub mod guard;
+pub mod near;
 pub mod random;
 pub mod rules;
 pub mod samples;

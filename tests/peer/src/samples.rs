@@ -67,6 +67,18 @@ impl List {
         self.add(name, &rule.bytes(), Operation::Figure, 0, &[value, whole]);
     }
 
+    fn cut(&mut self, name: impl Into<String>, rule: &RuleDraft, level: u64, numbers: [u64; 3]) {
+        self.add(name, &rule.bytes(), Operation::Cut(level), 0, &numbers);
+    }
+
+    /// The cuts at levels 0 to n.
+    fn cuts(&mut self, name: &str, rule: &RuleDraft, lines: &[[u64; 3]]) {
+        assert_eq!(lines.len(), rule.prefix.len() + 1, "{name}");
+        for (level, line) in lines.iter().enumerate() {
+            self.cut(format!("{name}-cut-{level}"), rule, level as u64, *line);
+        }
+    }
+
     fn clauses(&mut self, name: &str, rule: &RuleDraft, numbers: &[u64]) {
         self.add(name, &rule.bytes(), Operation::Clauses, 0, numbers);
     }
@@ -104,6 +116,9 @@ pub fn cases() -> Vec<Case> {
     orders(&mut list);
     wholes(&mut list);
     levels_and_limits(&mut list);
+    clashes(&mut list);
+    far_clashes(&mut list);
+    last_variable(&mut list);
     derivations(&mut list);
     unordered_lines(&mut list);
     resolvents(&mut list);
@@ -140,9 +155,7 @@ fn sample_file(list: &mut List) {
     let (file, steps) = (rule.bytes(), derivation.bytes());
     list.add("sample", &file, Operation::Read, 0, &[3, 3, 8, 50]);
     list.add("sample-figure", &file, Operation::Figure, 0, &[12, 50]);
-    for (level, line) in [[0, 50, 50], [0, 50, 50], [0, 40, 40], [12, 12, 0]].iter().enumerate() {
-        list.add(format!("sample-cut-{level}"), &file, Operation::Cut(level as u64), 0, line);
-    }
+    list.cuts("sample", &rule, &[[0, 50, 50], [0, 40, 40], [0, 40, 40], [12, 12, 0]]);
     list.add("sample-check", &file, Operation::Check(steps.clone()), 0, &[12, 50]);
 
     // No shorter part of the rule file ends in its own word count.
@@ -515,6 +528,165 @@ fn levels_and_limits(list: &mut List) {
     list.add("cut-satisfied-beside-undetermined", &choice.bytes(), Operation::Cut(1), 0, &[2, 2, 2]);
 }
 
+/// Cuts on both sides of each border of document 02's clash: two clauses without a true literal have one unset literal
+/// each, the one a variable and the other its opposite.
+fn clashes(list: &mut List) {
+    let one = |clauses: &[&[u32]]| RuleDraft::new(clauses, &[[3, 1]]);
+    let two = |clauses: &[&[u32]]| RuleDraft::new(clauses, &[[1, 2], [3, 4]]);
+    let lost = [0; 3];
+
+    // Opposite literals, the same one twice, and both.
+    list.cuts("clash", &one(&[&[0], &[1]]), &[lost, lost]);
+    list.cuts("clash-opposite-first", &one(&[&[1], &[0]]), &[lost, lost]);
+    list.cuts("no-clash-same", &one(&[&[0], &[0]]), &[[0, 4, 4], [3, 3, 0]]);
+    list.cuts("no-clash-same-opposite", &one(&[&[1], &[1]]), &[[0, 4, 4], [1, 1, 0]]);
+    list.cuts("clash-beside-same", &one(&[&[0], &[0], &[1]]), &[lost, lost]);
+
+    // One variable, the next one or a later one, and two variables. Literals 1 and 2 stand side by side.
+    list.cuts("clash-next", &two(&[&[0], &[1], &[2]]), &[lost, lost, lost]);
+    list.cuts("clash-later", &two(&[&[2], &[3]]), &[lost, lost, lost]);
+    list.cuts("clash-later-beside-next", &two(&[&[0], &[2], &[3]]), &[lost, lost, lost]);
+    list.cuts("no-clash-two-variables", &two(&[&[0], &[2]]), &[[0, 21, 21], [0, 7, 7], [3, 3, 0]]);
+    list.cuts("no-clash-two-variables-opposite", &two(&[&[0], &[3]]), &[[0, 21, 21], [0, 7, 7], [4, 4, 0]]);
+    list.cuts("no-clash-side-by-side", &two(&[&[1], &[2]]), &[[0, 21, 21], [0, 14, 14], [6, 6, 0]]);
+
+    // Exactly one unset literal: one of the clauses has two, or both have.
+    list.cuts("no-clash-first-of-two", &two(&[&[0, 2], &[1]]), &[[0, 21, 21], [0, 14, 14], [6, 6, 0]]);
+    list.cuts("no-clash-second-of-two", &two(&[&[0], &[1, 2]]), &[[0, 21, 21], [0, 7, 7], [3, 3, 0]]);
+    list.cuts("no-clash-both-of-two", &two(&[&[0, 2], &[1, 2]]), &[[0, 21, 21], [0, 21, 21], [9, 9, 0]]);
+    // {0} and {1, 2} leave {2}, which clashes with {3}: not before variable 0 is set.
+    list.cuts("no-clash-by-a-third", &two(&[&[0], &[1, 2], &[3]]), &[[0, 21, 21], lost, lost]);
+
+    // Where variable 0 has one value a clause is satisfied, or both are; where it has the other they clash. Last, each
+    // value satisfies one of the two.
+    list.cuts("clash-first-satisfied", &two(&[&[0, 2], &[3]]), &[[0, 21, 21], [0, 7, 7], [4, 4, 0]]);
+    list.cuts("clash-second-satisfied", &two(&[&[2], &[1, 3]]), &[[0, 21, 21], [0, 14, 14], [6, 6, 0]]);
+    list.cuts("clash-both-satisfied", &two(&[&[0, 2], &[0, 3]]), &[[0, 21, 21], [7, 7, 0], [7, 7, 0]]);
+    list.cuts("no-clash-one-satisfied", &two(&[&[0, 2], &[1, 3]]), &[[0, 21, 21], [0, 21, 21], [10, 10, 0]]);
+
+    // No clauses, and an empty clause beside two that clash and two that do not.
+    list.cuts("no-clash-no-clauses", &two(&[]), &[[21, 21, 0], [21, 21, 0], [21, 21, 0]]);
+    list.cuts("clash-beside-empty", &two(&[&[2], &[], &[3]]), &[lost, lost, lost]);
+    list.cuts("no-clash-beside-empty", &two(&[&[2], &[], &[2]]), &[lost, lost, lost]);
+
+    // At level 2 and not at level 1.
+    let later = RuleDraft::new(&[&[0, 2, 4], &[0, 2, 5]], &[[1, 2], [1, 3], [1, 4]]);
+    list.cuts("clash-at-2", &later, &[[0, 60, 60], [20, 60, 40], [30, 30, 0], [30, 30, 0]]);
+
+    // Where variable 0 is true, {4} and {5} clash; where it is false and variable 1 too, they do, and where that is
+    // true, {4} is left. Variable 1 is existential, then randomized.
+    let clauses: &[&[u32]] = &[&[1, 4], &[1, 5], &[0, 2, 4], &[0, 2, 5], &[0, 3, 4]];
+    let choice = RuleDraft::new(clauses, &[[2, 3], [0, 0], [1, 4]]);
+    list.cuts("clash-under-existential", &choice, &[[0, 25, 25], [0, 15, 15], [0, 15, 15], [3, 3, 0]]);
+    let draw = RuleDraft::new(clauses, &[[2, 3], [1, 1], [1, 4]]);
+    list.cuts("clash-under-randomized", &draw, &[[0, 50, 50], [0, 30, 30], [0, 15, 15], [3, 3, 0]]);
+    // The same, but satisfied where variable 0 is true: all three numbers differ.
+    let draw = RuleDraft::new(&[&[0, 2, 4], &[0, 2, 5], &[0, 3, 4]], &[[3, 2], [1, 4], [1, 1]]);
+    list.cuts("clash-three-numbers", &draw, &[[0, 50, 50], [30, 50, 20], [30, 34, 4], [32, 32, 0]]);
+    // {4} and {5} clash where variables 0 and 1 are opposite; variable 3 keeps the other nodes open. Variable 0 takes
+    // the larger side, where variable 1 is false.
+    let choice =
+        RuleDraft::new(&[&[1, 2, 4], &[1, 2, 5], &[0, 3, 4], &[0, 3, 5], &[6]], &[[0, 0], [1, 2], [1, 1], [1, 3]]);
+    let lines = [[0, 24, 24], [0, 24, 24], [0, 16, 16], [0, 16, 16], [4, 4, 0]];
+    list.cuts("clash-on-both-sides", &choice, &lines);
+    // An existential choice between a satisfied node and one with a clash: the open weight is 0.
+    let choice = RuleDraft::new(&[&[0, 2], &[0, 3]], &[[0, 0], [1, 1]]);
+    list.cuts("clash-beside-satisfied", &choice, &[[0, 2, 2], [2, 2, 0], [2, 2, 0]]);
+
+    // What is no cut: the figure, the verdict, the check and the writer, which goes on at a clash.
+    let rule = one(&[&[0], &[1]]);
+    list.figure("clash-figure", &rule, 0, 4);
+    list.add("clash-within", &rule.bytes(), Operation::Verdict(0, 4), 0, &[0, 0]);
+    list.add("clash-below", &rule.bytes(), Operation::Verdict(1, 4), 0, &[2, 0]);
+    let steps = [2, 0, 0, 0, 0, 2, 0, 1, 1, 10];
+    list.check("clash-check", &rule, &steps, 0, &[0, 4]);
+    list.derived("derive-clash", &rule, &steps);
+    let lines = [&[1, 2, 1, 2, 1, 0][..], &[2, 1, 1, 4, 0, 1, 2, 1], &[2, 1, 0, 0, 0, 1, 2, 0], &[2, 0, 4, 0, 0, 3, 5]];
+    let steps = [&lines.concat()[..], &[4, 7, 32]].concat();
+    list.derived("derive-clash-at-1", &two(&[&[0, 2], &[3]]), &steps);
+}
+
+/// Clashes on late variables, of long clauses, and of clauses that stand far apart.
+fn far_clashes(list: &mut List) {
+    let lost = [0; 3];
+    let wide = |clauses: Vec<Vec<u32>>| RuleDraft { clauses, prefix: vec![[0, 0]; 32] };
+    let last = wide(vec![vec![62], vec![63]]);
+    for level in [0, 1, 16, 31, 32] {
+        list.cut(format!("clash-last-of-32-cut-{level}"), &last, level, lost);
+    }
+    list.cut("no-clash-last-same", &wide(vec![vec![62], vec![62]]), 0, [0, 1, 1]);
+    list.cut("no-clash-last-two", &wide(vec![vec![60], vec![63]]), 0, [0, 1, 1]);
+    list.cut("no-clash-last-side-by-side", &wide(vec![vec![61], vec![62]]), 0, [0, 1, 1]);
+    // Each variable must be true, or each second one false; then one of them the opposite besides.
+    let all_true: Vec<Vec<u32>> = (0..32).map(|v| vec![2 * v]).collect();
+    let mixed: Vec<Vec<u32>> = all_variables().into_iter().map(|literal| vec![literal]).collect();
+    for (name, units) in [("true", all_true), ("mixed", mixed)] {
+        list.cut(format!("no-clash-32-{name}"), &wide(units.clone()), 0, [0, 1, 1]);
+        for v in [0, 15, 16, 30, 31] {
+            let mut units = units.clone();
+            units.push(vec![units[v][0] ^ 1]);
+            list.cut(format!("clash-32-{name}-on-{v}"), &wide(units), 0, lost);
+        }
+    }
+
+    // Two clauses of all variables that differ on the last: they clash where all others are false.
+    let long = |n: u32| vec![(0..n).map(|v| 2 * v).collect(), (0..n).map(|v| 2 * v + v / (n - 1)).collect()];
+    let rule = wide(long(32));
+    for (level, open) in [(0, [0, 1, 1]), (30, [1, 1, 1]), (31, [1, 1, 0]), (32, [1, 1, 0])] {
+        list.cut(format!("clash-at-31-cut-{level}"), &rule, level, open);
+    }
+    let top = 1u64 << 60;
+    let rule = RuleDraft { clauses: long(30), prefix: vec![[1, 3]; 30] };
+    let (open, falsified) = (3u64.pow(28) << 4, 3u64.pow(29) << 2);
+    list.cut("clash-at-29-cut-28", &rule, 28, [top - open, top, open]);
+    list.cut("clash-at-29-cut-29", &rule, 29, [top - falsified, top - falsified, 0]);
+    list.cut("clash-at-29-cut-30", &rule, 30, [top - falsified, top - falsified, 0]);
+
+    // Two of many clauses, wherever they stand: {62} and {63}, or {62} twice, at level 0; at level 1 the same with
+    // literal 0, which is false with weight 2. The others are satisfied there, and open where it is true.
+    for (m, a, b) in [(65, 0, 64), (65, 63, 64), (128, 63, 64), (1_024, 0, 1_023), (1_024, 511, 512)] {
+        let with = |first: &[u32], second: &[u32]| {
+            let mut rule = distinct_clauses(m, 1);
+            rule.clauses[a] = first.to_vec();
+            rule.clauses[b] = second.to_vec();
+            rule.prefix[0] = [1, 2];
+            rule
+        };
+        let name = format!("{a}-and-{b}-of-{m}");
+        list.cut(format!("clash-{name}"), &with(&[62], &[63]), 0, lost);
+        list.cut(format!("no-clash-{name}"), &with(&[62], &[62]), 0, [0, 3, 3]);
+        list.cut(format!("clash-{name}-cut-1"), &with(&[0, 62], &[0, 63]), 1, [0, 1, 1]);
+        list.cut(format!("no-clash-{name}-cut-1"), &with(&[0, 62], &[0, 62]), 1, [0, 3, 3]);
+    }
+}
+
+/// One clause of one literal, on the last of 32 existential variables, and of thirty randomized ones: no node above the
+/// last level is decided.
+fn last_variable(list: &mut List) {
+    let mut add = |name: &str, rule: &RuleDraft, value: u64, whole: u64, levels: &[u64]| {
+        list.figure(&format!("{name}-figure"), rule, value, whole);
+        let mut verdict = |name: String, lo, hi, numbers: [u64; 2]| {
+            list.add(name, &rule.bytes(), Operation::Verdict(lo, hi), 0, &numbers);
+        };
+        verdict(format!("{name}-within"), value, value, [0, value]);
+        verdict(format!("{name}-above"), 0, value - 1, [1, 0]);
+        if value < whole {
+            verdict(format!("{name}-below"), value + 1, whole, [2, 0]);
+        }
+        let n = rule.prefix.len() as u64;
+        for &level in levels {
+            let numbers = if level < n { [0, whole, whole] } else { [value, value, 0] };
+            list.cut(format!("{name}-cut-{level}"), rule, level, numbers);
+        }
+    };
+    let existential = RuleDraft { clauses: vec![vec![62]], prefix: vec![[0, 0]; 32] };
+    add("last-of-32", &existential, 1, 1, &[0, 1, 16, 31, 32]);
+    // True with weight 1 of 4, false with 3.
+    let randomized = |literal| RuleDraft { clauses: vec![vec![literal]], prefix: vec![[1, 3]; 30] };
+    add("last-of-30", &randomized(58), 1 << 58, 1 << 60, &[0, 1, 15, 29, 30]);
+    add("last-of-30-opposite", &randomized(59), 3 << 58, 1 << 60, &[0, 1, 15, 29, 30]);
+}
+
 /// So many clauses over 32 existential variables, no two alike, of three literals each, the first of them `literal`.
 fn distinct_clauses(count: usize, literal: u32) -> RuleDraft {
     let pairs = (1..32).flat_map(|a| (a + 1..32).map(move |b| (a, b)));
@@ -700,9 +872,9 @@ fn derivations(list: &mut List) {
     let after = RuleDraft::new(&[&[1, 4], &[0, 4]], &[[1, 1], [1, 1], [1, 1]]);
     list.check("variable-after-v", &after, &[2, 1, 4, 0, 0, 0, 0, 2, 1, 1, 11], 19, &[0]);
     // Parents {1, 5} and {0, 4} have an opposite pair besides variable 2's, so no line fits them.
-    let clash = RuleDraft::new(&[&[1, 5], &[0, 4]], &[[1, 1], [1, 1], [1, 1]]);
-    list.check("resolvent-with-opposites", &clash, &[2, 2, 0, 1, 0, 0, 2, 0, 2, 1, 1, 12], 16, &[0]);
-    list.check("resolvent-with-half", &clash, &[2, 1, 0, 0, 0, 2, 0, 2, 1, 1, 11], 19, &[0]);
+    let opposed = RuleDraft::new(&[&[1, 5], &[0, 4]], &[[1, 1], [1, 1], [1, 1]]);
+    list.check("resolvent-with-opposites", &opposed, &[2, 2, 0, 1, 0, 0, 2, 0, 2, 1, 1, 12], 16, &[0]);
+    list.check("resolvent-with-half", &opposed, &[2, 1, 0, 0, 0, 2, 0, 2, 1, 1, 11], 19, &[0]);
 
     // 20: values. Low words of the lines' values, then a high word.
     for (number, place) in [5, 11, 19, 27, 34].into_iter().enumerate() {

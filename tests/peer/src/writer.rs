@@ -142,7 +142,7 @@ impl<'a> Writer<'a> {
     }
 
     /// Document 02 on the node where these literals are false: the first lost clause; where all clauses are met, the
-    /// opposites of the whole path.
+    /// opposites of the whole path. Clauses that clash do not close it: neither of them is lost.
     pub fn node(&self, falsehoods: Literals) -> Node {
         let lost = self.rules.clauses.iter().position(|clause| clause & !falsehoods == 0);
         match lost {

@@ -2,6 +2,7 @@
 
 use peer::answer::{answer, Answer};
 use peer::generate::{self, RuleDraft};
+use peer::near::Told;
 use peer::random::Random;
 use peer::rules::{self, Rules};
 use peer::tables::Tables;
@@ -38,7 +39,7 @@ fn sample_answers() {
     let file = rule.bytes();
     assert_eq!(answer(&file, |solver| solver.read()), numbers(&[3, 3, 8, 50]));
     assert_eq!(answer(&file, |solver| solver.figure()), numbers(&[12, 50]));
-    let lines = [[0, 50, 50], [0, 50, 50], [0, 40, 40], [12, 12, 0]];
+    let lines = [[0, 50, 50], [0, 40, 40], [0, 40, 40], [12, 12, 0]];
     let rules = rules_of(&rule);
     let tables = Tables::new(&rules);
     for (level, line) in lines.iter().enumerate() {
@@ -74,12 +75,91 @@ fn proved_samples() {
     }
 }
 
-/// Enumeration, tables and walk agree, and the cut's numbers are as they must be.
+/// Cuts on both sides of document 02's clash, at all levels, and the nodes that are left for the value. Of the two
+/// draws the first is true with weight 1 and false with 2, the second with 3 and 4.
+#[test]
+fn clashes() {
+    let check = |clauses: &[&[u32]], prefix: &[[u32; 2]], nodes: u64, cuts: &[[u64; 3]]| {
+        let rules = rules_of(&RuleDraft::new(clauses, prefix));
+        let tables = Tables::new(&rules);
+        assert_eq!(cuts.len(), rules.n() + 1);
+        for (d, cut) in cuts.iter().enumerate() {
+            assert_eq!(enumerate::cut(&rules, d), cut.map(u128::from), "level {d} of {clauses:?}");
+            assert_eq!(tables.cut(d), cut.map(u128::from), "level {d} of {clauses:?}");
+            assert_eq!(walk::cut(&rules, d).0, *cut, "level {d} of {clauses:?}");
+        }
+        let value = cuts[rules.n()][0];
+        assert_eq!(enumerate::value(&rules), value.into(), "{clauses:?}");
+        assert_eq!(tables.value(), value.into(), "{clauses:?}");
+        assert_eq!(tables.nodes(rules.n()), nodes.into(), "{clauses:?}");
+        assert_eq!(walk::value(&rules), (value, nodes), "{clauses:?}");
+    };
+    let one = |clauses: &[&[u32]], nodes, cuts: &_| check(clauses, &[[3, 1]], nodes, cuts);
+    let two = |clauses: &[&[u32]], nodes, cuts: &_| check(clauses, &[[1, 2], [3, 4]], nodes, cuts);
+    let lost = [0; 3];
+
+    // Opposite signs, the same sign, and both.
+    one(&[&[0], &[1]], 1, &[lost, lost]);
+    one(&[&[1], &[0]], 1, &[lost, lost]);
+    one(&[&[0], &[0]], 3, &[[0, 4, 4], [3, 3, 0]]);
+    one(&[&[1], &[1]], 3, &[[0, 4, 4], [1, 1, 0]]);
+    one(&[&[0], &[0], &[1]], 1, &[lost, lost]);
+    // Two variables, with the same sign and with opposite ones; literals 1 and 2 stand side by side.
+    two(&[&[0], &[2]], 5, &[[0, 21, 21], [0, 7, 7], [3, 3, 0]]);
+    two(&[&[0], &[3]], 5, &[[0, 21, 21], [0, 7, 7], [4, 4, 0]]);
+    two(&[&[1], &[2]], 5, &[[0, 21, 21], [0, 14, 14], [6, 6, 0]]);
+    // A variable that is not the next one.
+    two(&[&[2], &[3]], 1, &[lost, lost, lost]);
+    two(&[&[0], &[2], &[3]], 1, &[lost, lost, lost]);
+    // Exactly one unset literal, in one clause of the two or in none.
+    two(&[&[0, 2], &[1]], 5, &[[0, 21, 21], [0, 14, 14], [6, 6, 0]]);
+    two(&[&[0], &[1, 2]], 5, &[[0, 21, 21], [0, 7, 7], [3, 3, 0]]);
+    two(&[&[0], &[1, 2], &[3]], 3, &[[0, 21, 21], lost, lost]);
+    two(&[&[0, 2], &[1, 3]], 7, &[[0, 21, 21], [0, 21, 21], [10, 10, 0]]);
+    // Below level 0: where variable 0 is true one clause is satisfied, or both are; where it is false they clash.
+    two(&[&[0, 2], &[3]], 5, &[[0, 21, 21], [0, 7, 7], [4, 4, 0]]);
+    two(&[&[2], &[0, 3]], 5, &[[0, 21, 21], [0, 7, 7], [3, 3, 0]]);
+    two(&[&[0, 2], &[0, 3]], 3, &[[0, 21, 21], [7, 7, 0], [7, 7, 0]]);
+    // No clauses, and an empty clause.
+    two(&[], 1, &[[21, 21, 0], [21, 21, 0], [21, 21, 0]]);
+    two(&[&[2], &[], &[3]], 1, &[lost, lost, lost]);
+    // Under an existential variable: both nodes of level 1 are lost, or one is satisfied.
+    check(&[&[0], &[1, 2], &[3]], &[[0, 0], [1, 1]], 3, &[[0, 2, 2], lost, lost]);
+    check(&[&[0, 2], &[0, 3]], &[[0, 0], [1, 1]], 3, &[[0, 2, 2], [2, 2, 0], [2, 2, 0]]);
+    check(
+        &[&[0, 2], &[3], &[2, 4]],
+        &[[4, 1], [0, 0], [3, 7]],
+        7,
+        &[[0, 50, 50], [0, 40, 40], [0, 40, 40], [12, 12, 0]],
+    );
+}
+
+/// The writer goes on at a clash, which names no clause: at level 0, on the next variable and on a later one, and at
+/// level 1.
+#[test]
+fn writer_goes_on_at_a_clash() {
+    let written = |clauses: &[&[u32]], prefix: &[[u32; 2]]| {
+        let rules = rules_of(&RuleDraft::new(clauses, prefix));
+        to_words(&writer::derive(&rules, 65_536).unwrap())
+    };
+    assert_eq!(written(&[&[0], &[1]], &[[3, 1]]), [2, 0, 0, 0, 0, 2, 0, 1, 1, 10]);
+    assert_eq!(written(&[&[2], &[3]], &[[1, 2], [3, 4]]), [2, 0, 0, 0, 1, 2, 0, 1, 1, 10]);
+    let lines = [&[1, 2, 1, 2, 1, 0][..], &[2, 1, 1, 4, 0, 1, 2, 1], &[2, 1, 0, 0, 0, 1, 2, 0]];
+    let closing = [&[2, 0, 4, 0, 0, 3, 5][..], &[4, 7, 32]];
+    assert_eq!(written(&[&[0, 2], &[3]], &[[1, 2], [3, 4]]), [lines.concat(), closing.concat()].concat());
+}
+
+/// Enumeration, tables and walk agree, and the cut's numbers are as they must be. A clash takes from the upper number
+/// and the open weight alone.
 #[test]
 fn methods_agree() {
     let mut random = Random::new(1);
     for round in 0..30_000 {
-        let draft = generate::small_rule(&mut random, if round % 20 == 0 { 12 } else { 8 });
+        let draft = match round % 20 {
+            0 => generate::small_rule(&mut random, 12),
+            1..6 => generate::small_clashing_rule(&mut random, 8),
+            _ => generate::small_rule(&mut random, 8),
+        };
         let rules = rules_of(&draft);
         let n = rules.n();
         let tables = Tables::new(&rules);
@@ -88,9 +168,14 @@ fn methods_agree() {
         assert_eq!(tables.value(), value, "{draft:?}");
         assert_eq!(u128::from(walked), value, "{draft:?}");
         assert_eq!(tables.nodes(n), u128::from(nodes), "{draft:?}");
+        let plain_tables = Tables::without_clashes(&rules);
+        assert_eq!(plain_tables.value(), value, "{draft:?}");
         let mut before = [0, rules.whole()];
         for d in 0..=n {
             let [lower, upper, open] = enumerate::cut(&rules, d);
+            let plain = enumerate::cut_with(&rules, d, |_, _, _| false);
+            assert_eq!(plain_tables.cut(d), plain, "level {d} of {draft:?}");
+            assert!(lower == plain[0] && upper <= plain[1] && open <= plain[2], "level {d} of {draft:?}");
             let (walked, nodes) = walk::cut(&rules, d);
             assert_eq!(tables.cut(d), [lower, upper, open], "level {d} of {draft:?}");
             assert_eq!(Tables::down_to(&rules, d).cut(d), [lower, upper, open], "level {d} of {draft:?}");
@@ -102,6 +187,17 @@ fn methods_agree() {
         }
         assert_eq!(before, [value, value]);
     }
+}
+
+/// Random files tell document 02's clash from what is nearly one.
+#[test]
+fn near_clashes_are_told() {
+    let mut random = Random::new(7);
+    let mut told = Told::default();
+    for _ in 0..5_000 {
+        told.take(&rules_of(&generate::small_clashing_rule(&mut random, 6)));
+    }
+    told.reached(250);
 }
 
 /// Tables and walk agree where enumeration would take too long.

@@ -8,6 +8,7 @@ mod common;
 use common::{random, rounds, Pair, CHECK, CUT, DERIVE, FIGURE, NAMING, READ, VERDICT};
 use peer::ffi::{plain, Place};
 use peer::generate::{self, RuleDraft};
+use peer::near::Told;
 use peer::rules;
 use peer::writer::{DerivationDraft, LineDraft};
 use peer::{to_bytes, to_words};
@@ -27,6 +28,23 @@ fn valid_files() {
     pair.reached(DERIVE, [0, 22], 70_000);
     pair.reached(CHECK, [0], 35_000);
     assert!(pair.verdicts.iter().all(|count| *count > 1_000), "within, above, below: {:?}", pair.verdicts);
+    pair.clashed([3_000, 5_000, 2_000], 300);
+}
+
+/// Files in which clauses clash or nearly do: enough cuts tell document 02's clash from what is nearly one.
+#[test]
+fn clashing_files() {
+    let (mut random, mut pair) = (random(111), Pair::new());
+    let mut told = Told::default();
+    for _ in 0..rounds(10_000) {
+        let bytes = generate::small_clashing_rule(&mut random, 6).bytes();
+        if pair.rule(&mut random, &bytes) {
+            told.take(&rules::read(&bytes).unwrap());
+        }
+    }
+    pair.report("clashing_files");
+    told.reached(500);
+    pair.clashed([2_000, 2_000, 1_000], 100);
 }
 
 #[test]
@@ -61,21 +79,24 @@ fn long_files() {
     pair.named_later(READ, NAMING, 1);
     pair.reached(FIGURE, [0], 60);
     pair.reached(DERIVE, [0, 22], 60);
+    pair.clashed([40, 50, 0], 0);
 }
 
 /// Files of 10 to 32 variables whose tree is small enough to walk.
 #[test]
 fn wide_files() {
     let (mut random, mut pair) = (random(109), Pair::new());
-    for _ in 0..rounds(400) {
+    for round in 0..rounds(600) {
         let n = random.within(10, 32);
         let m = random.within(n, 8 * n);
-        let draft = generate::rule(&mut random, n, m);
+        let make = if round % 3 == 0 { generate::clashing_rule } else { generate::rule };
+        let draft = make(&mut random, n, m);
         pair.rule(&mut random, &draft.bytes());
     }
     pair.report("wide_files");
     pair.reached(FIGURE, [0], 200);
     pair.reached(DERIVE, [0, 22], 300);
+    pair.clashed([30, 300, 5], 0);
 }
 
 #[test]

@@ -1,6 +1,6 @@
 //! Random rule files, valid and damaged.
 
-use super::{damage_length, harmful, unorder, RuleDraft};
+use super::{damage_length, harmful, often_at_an_end, unorder, RuleDraft};
 use crate::random::Random;
 use crate::rules::LARGEST_WHOLE;
 use crate::{to_bytes, to_words};
@@ -109,6 +109,37 @@ pub fn small_rule(random: &mut Random, most: usize) -> RuleDraft {
         _ => random.within(0, 4 * n),
     };
     rule(random, n, m)
+}
+
+/// A valid rule file of `n` variables, at least one, in which clauses clash or nearly do. Besides `m` clauses it has
+/// pairs of one clause and a copy in which mostly one literal is turned to its opposite: the two clash where all their
+/// other literals are false. Sometimes the copy has a literal more, or another one turned too, so that it is satisfied
+/// there.
+pub fn clashing_rule(random: &mut Random, n: usize, m: usize) -> RuleDraft {
+    let mut draft = rule(random, n, m);
+    for _ in 0..random.within(1, 4) {
+        let k = random.within(1, n.min(4));
+        let first = clause(random, n, k);
+        let mut second = first.clone();
+        for _ in 0..random.pick(&[0, 1, 1, 1, 1, 2]) {
+            second[often_at_an_end(random, k)] ^= 1;
+        }
+        let literal = random.below(2 * n) as u32;
+        if random.once_in(4) && second.iter().all(|other| other / 2 != literal / 2) {
+            second.push(literal);
+            second.sort_unstable();
+        }
+        draft.clauses.extend([first, second]);
+    }
+    random.shuffle(&mut draft.clauses);
+    draft
+}
+
+/// The same with at most `most` variables and few other clauses.
+pub fn small_clashing_rule(random: &mut Random, most: usize) -> RuleDraft {
+    let n = random.within(1, most);
+    let m = random.within(0, n);
+    clashing_rule(random, n, m)
 }
 
 /// A valid rule file with up to 32 variables and up to 1,024 clauses, of at most 65,536 bytes.

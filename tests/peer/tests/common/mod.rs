@@ -2,8 +2,10 @@
 
 use peer::answer::{Answer, Solver};
 use peer::ffi::{buffer_before, Library, Place, Returned, BEFORE, LONGEST};
+use peer::near::kind_of_level;
 use peer::random::Random;
 use peer::rules;
+use peer::tables::Tables;
 
 pub const READ: usize = 0;
 pub const FIGURE: usize = 1;
@@ -30,6 +32,10 @@ pub struct Pair {
     pub verdicts: [u64; 3],
     /// How often each operation's refusals named a clause, variable or line after the first.
     pub later: [[u64; NUMBERS]; 6],
+    /// How many cuts clashes gave other numbers: at level 0, between and at level n - 1.
+    pub by_clashes: [u64; 3],
+    /// How many of them have another open weight alone.
+    pub open_alone: u64,
 }
 
 /// The number of rounds, times the variable PEER_ROUNDS if it is set.
@@ -53,7 +59,14 @@ fn place(random: &mut Random) -> Place {
 
 impl Pair {
     pub fn new() -> Pair {
-        Pair { library: Library::new(), counts: [[0; NUMBERS]; 6], verdicts: [0; 3], later: [[0; NUMBERS]; 6] }
+        Pair {
+            library: Library::new(),
+            counts: [[0; NUMBERS]; 6],
+            verdicts: [0; 3],
+            later: [[0; NUMBERS]; 6],
+            by_clashes: [0; 3],
+            open_alone: 0,
+        }
     }
 
     /// Fails unless the call returned the peer's answer.
@@ -70,8 +83,9 @@ impl Pair {
         }
     }
 
-    /// Compares all operations but the derivation check on one rule file.
-    pub fn rule(&mut self, random: &mut Random, bytes: &[u8]) {
+    /// Compares all operations but the derivation check on one rule file; false if its tree is too large, so that it
+    /// was not solved.
+    pub fn rule(&mut self, random: &mut Random, bytes: &[u8]) -> bool {
         let input = || format!("rule file {}", to_hex(bytes));
         let rules = rules::read(bytes);
         self.library.lend_rule(bytes, place(random));
@@ -84,7 +98,7 @@ impl Pair {
             Err(_) => (random.below(34) as u64, 0, 1 << random.below(63)),
         };
         if solver.nodes() * (m as u128 + 1) > MOST_STEPS {
-            return;
+            return false;
         }
         let figure = solver.figure();
         let got = self.library.figure();
@@ -113,6 +127,15 @@ impl Pair {
             let got = self.library.cut(level);
             self.same(CUT, &solver.cut(level), got, || format!("level {level}, {}", input()));
         }
+        if let Ok(rules) = &rules {
+            let plain = Tables::without_clashes(rules);
+            for level in 0..rules.n() {
+                let (cut, plain) = (solver.cut(level as u64).numbers, Answer::numbers(&plain.cut(level)).numbers);
+                self.by_clashes[kind_of_level(level, rules.n())] += u64::from(cut != plain);
+                self.open_alone += u64::from(cut != plain && cut[1] == plain[1]);
+            }
+        }
+        true
     }
 
     /// Compares the reading of one rule file.
@@ -188,6 +211,14 @@ impl Pair {
         }
     }
 
+    /// Fails unless clashes gave other numbers to at least so many cuts of each kind of level, and another open weight
+    /// alone to at least `open_alone`.
+    pub fn clashed(&self, least: [u64; 3], open_alone: u64) {
+        let enough = self.by_clashes.iter().zip(least).all(|(count, least)| *count >= least);
+        assert!(enough, "clashes gave other numbers to {:?} cuts only", self.by_clashes);
+        assert!(self.open_alone >= open_alone, "another open weight alone to {} cuts only", self.open_alone);
+    }
+
     /// Prints the counts (seen with `--nocapture`).
     pub fn report(&self, test: &str) {
         let mut text = format!("{test}:\n");
@@ -200,6 +231,10 @@ impl Pair {
                 }
                 text += "\n";
             }
+        }
+        if self.counts[CUT][0] > 0 {
+            text +=
+                &format!("  other numbers by clashes: {:?}, open weight alone: {}\n", self.by_clashes, self.open_alone);
         }
         print!("{text}");
     }

@@ -6,10 +6,10 @@ use mathlib.Core.List.{List}
 use Prim.Native.Nat.{ℕ, _+_, _-_, _%_, _^_, _≤_, _<_}
 use native.Mathlib.Decide.{decLt}
 use native.Mathlib.Omega.{arith}
-use lib.Dec.{leb}
 use lib.ListN.{length}
 use Rattle.formula.specs.Formula.{some-of}
-use Rattle.bit_set.specs.BitSet.{has, mask}
+use Rattle.bit_set.specs.BitSet.{has, mask, from}
+use Rattle.bit_set.proofs.PartLaws.{from-has}
 use Rattle.resolution.specs.Resolution.{is-blocking}
 use Rattle.literals.specs.Occurrences.{Occurrences}
 use Rattle.literals.proofs.BlockingLaws.{Opposed, blocking-iff, opposes, block-iff}
@@ -28,12 +28,12 @@ Answer table count c b = (φ : List (List ℕ)) (x : List ℕ) → Occurrences �
 
 -- 64 clauses at a time: r has those that are opposed, and of `seen` all past the last one
 module _ {table : List ℕ} {count c passed : ℕ} (p : Part table count c passed) (seen r : ℕ) (r< : r < 2 ^ 64)
-    (past : (h : ℕ) → h < 64 → has seen h ≡ leb (count - passed) h)
+    (past : seen ≡ from (count - passed))
     (is : (x : List ℕ) → c ≡ mask x → (h : ℕ) → has r h ≡ (has seen h || some-of (opposes table passed h) x)) where
   block : (x : List ℕ) → c ≡ mask x → (r ≡ 2 ^ 64 - 1) ↔ ((h : ℕ) → h < 64 → passed + h < count → Opposed table x (passed + h))
   block x e =
       block-iff table x count passed r (p .aligned) r<
-      (λ h k. is x e h ∙ ap (_|| some-of (opposes table passed h) x) (past h k))
+      (λ h k. is x e h ∙ ap (_|| some-of (opposes table passed h) x) (ap (λ n. has n h) past ∙ from-has (count - passed) h k))
 
   more : r ≡ 2 ^ 64 - 1 → Part table count c (passed + 64)
   more all = record { aligned = omega (arith, p .aligned); small = p .small; each = λ x e h k l. go x e h k l (decLt h passed) }
