@@ -1,7 +1,7 @@
 /* SSAT: stochastic Boolean satisfiability, on rule files and derivation files. What the files hold, what their numbers
  * mean and where each refusal's border lies is in docs/FORMATS.md.
  *
- * Each of the six functions returns 0 for an answer, else the number of the refusal. The answer depends on the
+ * Each of the seven functions returns 0 for an answer, else the number of the refusal. The answer depends on the
  * arguments alone; several threads may call at once. The whole is the product of the totals of all variables: the value
  * of the formula, out of the whole, is the maximum probability that every clause holds.
  *
@@ -17,6 +17,7 @@
  *     answer           the numbers named below stand in `out` from index 0; the rest is set to 0.
  *     refusal          `out` is unchanged, except that a refusal which names a place puts it into out[0]: 5 to 7 and
  *                      23 the number of a clause, 8 that of a variable, 15 to 20 that of a line, each counted from 0.
+ *   tally              five counts, lent for reading and writing; not null, aligned, and no part of the other buffers.
  *
  * Refusals of the rule file, by every function:
  *    1  length not a multiple of 4, under 16 or over 65,536 bytes
@@ -74,6 +75,17 @@ uint32_t ssat_figure(const uint8_t *rule, size_t len, uint64_t out[4]);
  * out: 0 and the value where lo <= value <= hi; 1 and 0 where it is above hi; 2 and 0 where it is below lo; then 0, 0.
  * Refusals: 1 to 9, 23, 10, 11. */
 uint32_t ssat_verdict(const uint8_t *rule, size_t len, uint64_t lo, uint64_t hi, uint64_t out[4]);
+
+/* Counts over the results of a list of files: all, those refused, and those whose value is above hi, below lo and from
+ * lo to hi. A tally begins with five noughts. */
+struct ssat_tally {
+    uint64_t files, refused, above, below, within;
+};
+
+/* Compares as ssat_verdict does, returns what it returns, and takes the result, a refusal too, into `tally`: `files`
+ * and the count of the result's kind go up by 1. With any count at 4,096 or more nothing is taken in.
+ * Refusals: 1 to 9, 23, 10, 11. */
+uint32_t ssat_tally(const uint8_t *rule, size_t len, uint64_t lo, uint64_t hi, struct ssat_tally *tally);
 
 /* Bounds on the value with only the first `level` variables set.
  * A way to set them in which two clauses without a true literal have one unset literal each, a variable and its

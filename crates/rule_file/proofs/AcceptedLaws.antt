@@ -25,7 +25,7 @@ use Rattle.rule_file.proofs.ReaderLaws.{check-2, check-3, check-4, chec
 pub answer-no-refusal : {A : Type 0} (r : Refusal) (x : A) → refused r ≡ answer x → ⊥
 answer-no-refusal r x e = let z : _≡_ {A = ℕ} 0 1 = cc in omega arith
 
-same-answer : {A : Type 0} (x y : A) → answer x ≡ answer y → x ≡ y
+pub same-answer : {A : Type 0} (x y : A) → answer x ≡ answer y → x ≡ y
 same-answer x y e = cc
 
 -- it has passed the check at hand

@@ -1,9 +1,13 @@
-// Runs the stored samples. Standard input is a row of records: the operation (1 read, 2 figure, 3 verdict, 4 cut,
-// 5 check, 6 clause reader, 7 derive), a 32-bit word; the verdict's two limits, or the cut's level or the length of the
-// writer's buffer and 0, two words each; the lengths of the rule file and of the derivation, a word each; then the two
-// files. Each record is answered by a line: the refusal's number, with the clause, variable or line at fault where one
-// is given, or 0 and the values. The clause reader's values are the length and the literals of each clause, and `none`
-// where no clause is left. The writer's line ends in `right` if the record's derivation, or nothing, is what it wrote.
+// Runs the stored samples. Standard input is a row of records: the operation (1 read, 2 figure, 3 verdict, 4 cut, 5
+// check, 6 clause reader, 7 derive, 8 job list, 9 tally), a 32-bit word; the two limits of the verdict and of the
+// tally, or the cut's level or the length of the writer's buffer and 0, two words each; the lengths of the rule file
+// and of the derivation, a word each; then the two files. A job list stands in the rule file's place, and a tally's
+// five counts, a word each, in the derivation's. Each record is answered by a line: the refusal's number, with the
+// clause, variable or line at fault where one is given, or 0 and the values. The clause reader's values are the length
+// and the literals of each clause, and `none` where no clause is left. The writer's line ends in `right` if the
+// record's derivation, or nothing, is what it wrote. The values of a job list are the number of its lines, and of each
+// line the length of the name and the limits, or `other`. A tally's line is the verdict's number alone, and the counts
+// after it.
 use bounds::Cutting;
 use bounds::cut;
 use clause_reader::cursor::Cursor;
@@ -12,6 +16,11 @@ use clause_reader::cursor::clause_at;
 use clause_reader::cursor::start;
 use derivation::Checking;
 use derivation::check;
+use job_list::Listing;
+use job_list::Parsing;
+use job_list::line_at;
+use job_list::parse;
+use job_list::read_list;
 use libc::STDIN_FILENO;
 use libc::STDOUT_FILENO;
 use rule_file::Reading;
@@ -20,6 +29,11 @@ use rule_file::limits::MAX_BYTES;
 use rule_file::read;
 use rule_file::words::part;
 use rule_file::words::word;
+use std::num::wrapping_add_usize;
+use tally::Tally;
+use tally::begin;
+use tally::kind_of;
+use tally::step;
 use value::Figuring;
 use value::Judging;
 use value::figure;
@@ -210,6 +224,65 @@ fn put_deriving<'a>(rule: &'a [u8], capacity: usize, written: &'a [u8]) {
     }
 }
 
+// What a line of the list gives; the index behind it, which no list is long enough to wrap.
+fn put_job(list: &[u8], at: usize) -> usize {
+    let line = line_at(list, at);
+    match parse(line) {
+        Parsing::Other => put(b" other"),
+        Parsing::Job { name, lower, upper } => {
+            put_value(name as u64);
+            put_value(lower);
+            put_value(upper);
+        }
+    }
+    wrapping_add_usize(wrapping_add_usize(at, line.len()), 1)
+}
+
+fn put_list(list: &[u8]) {
+    match read_list(list) {
+        Listing::Refused(refusal) => put_refusal(refusal),
+        Listing::Lines(count) => {
+            put_number(0);
+            put_value(count as u64);
+            let mut at = 0;
+            for _ in 0..count {
+                at = put_job(list, at);
+            }
+        }
+    }
+}
+
+// The counts in the first five words.
+fn tally_in(words: &[u8]) -> Tally {
+    if words.len() < 20 {
+        return begin();
+    }
+    Tally {
+        files: word(words, 0) as u64,
+        refused: word(words, 1) as u64,
+        above: word(words, 2) as u64,
+        below: word(words, 3) as u64,
+        within: word(words, 4) as u64,
+    }
+}
+
+fn put_tally<'a>(rule: &'a [u8], lo: u64, hi: u64, counts: &'a [u8]) {
+    let result = verdict(rule, lo, hi);
+    match result {
+        Judging::Refused(refusal) => match refusal {
+            Refusal::Alone(number) => put_number(number),
+            Refusal::At(number, _) => put_number(number),
+        },
+        _ => put_number(0),
+    }
+    let tally = step(tally_in(counts), kind_of(result));
+    put_value(tally.files);
+    put_value(tally.refused);
+    put_value(tally.above);
+    put_value(tally.below);
+    put_value(tally.within);
+}
+
 fn put_answer<'a>(operation: usize, a: u64, b: u64, rule: &'a [u8], derivation: &'a [u8]) {
     match operation {
         1 => put_reading(rule),
@@ -219,6 +292,8 @@ fn put_answer<'a>(operation: usize, a: u64, b: u64, rule: &'a [u8], derivation: 
         5 => put_checking(rule, derivation),
         6 => put_clauses(rule),
         7 => put_deriving(rule, a as usize, derivation),
+        8 => put_list(rule),
+        9 => put_tally(rule, a, b, derivation),
         _ => put(b"no operation"),
     }
     put(b"\n");

@@ -1,5 +1,5 @@
-// The operations for programs in other languages: numbers in, a number out, and the values in an array that the caller
-// lends. include/ssat.h declares them.
+// The operations for programs in other languages: numbers in, a number out, and the values in an array or a tally that
+// the caller lends. include/ssat.h declares them.
 use bounds::Cutting;
 use bounds::cut;
 use derivation::Checking;
@@ -7,6 +7,10 @@ use derivation::check;
 use rule_file::Reading;
 use rule_file::Refusal;
 use rule_file::read;
+use tally::Kind;
+use tally::Tally;
+use tally::absorb;
+use tally::kind_of;
 use value::Figuring;
 use value::Judging;
 use value::figure;
@@ -19,10 +23,11 @@ ghost use lib.Seq.{sets};
 ghost use mathlib.Core.List.{[], _∷_};
 ghost use Rattle.rule_file.specs.Answer.{number-of, place-of};
 ghost use Rattle.rule_file.specs.Reader.{read-file};
-ghost use Rattle.value.specs.Value.{figure-file, verdict-file};
+ghost use Rattle.value.specs.Value.{judging, figure-file, verdict-file};
 ghost use Rattle.bounds.specs.Cut.{cut-file};
 ghost use Rattle.derivation.specs.Check.{check-file};
 ghost use Rattle.writing.specs.Derive.{derive-file, length-of, buffer-after};
+ghost use Rattle.tally.specs.Tally.{kind-of, step};
 ghost use Rattle.ssat_c.specs.Interface.{code, placed, filled, header-values, ratio-values, verdict-values, bounds-values, closing-values, length-values};
 
 // An answer fills out and returns 0.
@@ -96,6 +101,50 @@ pub extern "C" fn ssat_verdict(rule: &[u8], lo: u64, hi: u64, out: &mut [u64; 4]
         Judging::Below => fill(out, 2, 0, 0, 0),
         Judging::Within(figure) => fill(out, 0, figure, 0, 0),
     }
+}
+
+// A refusal's number, else 0.
+fn code_of(result: Judging) -> u32
+    ensures { λ r. ⌜ r ≡ code (judging result) ⌝ }
+{
+    match result {
+        Judging::Refused(refusal) => match refusal {
+            Refusal::Alone(number) => number,
+            Refusal::At(number, _) => number,
+        },
+        Judging::Above => 0,
+        Judging::Below => 0,
+        Judging::Within(_) => 0,
+    }
+}
+
+// The number that ssat_verdict returns, and the kind of the result.
+struct Judged {
+    number: u32,
+    kind: Kind,
+}
+
+// Both, of one verdict.
+fn judge(rule: &[u8], lo: u64, hi: u64) -> Judged
+    ensures { λ r. ⌜ (r .number ≡ code (verdict-file (now (rule .entry)) lo hi)) × (r .kind ≡ kind-of (verdict-file (now (rule .entry)) lo hi)) ⌝ }
+{
+    let result = verdict(rule, lo, hi);
+    Judged {
+        number: code_of(result),
+        kind: kind_of(result),
+    }
+}
+
+// Takes the verdict's result into the tally that is lent.
+#[no_mangle]
+pub extern "C" fn ssat_tally(rule: &[u8], lo: u64, hi: u64, tally: &mut Tally) -> u32
+    ensures returned { λ r. ⌜ r ≡ code (verdict-file (now (rule .entry)) lo hi) ⌝ }
+    ensures taken_in { λ _. ⌜ now (tally .exit) ≡ step (now (tally .entry)) (kind-of (verdict-file (now (rule .entry)) lo hi)) ⌝ }
+    ensures unchanged { λ _. ⌜ now (rule .exit) ≡ now (rule .entry) ⌝ }
+{
+    let judged = judge(rule, lo, hi);
+    absorb(tally, judged.kind);
+    judged.number
 }
 
 // Lower, upper, open weight.

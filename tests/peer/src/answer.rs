@@ -1,7 +1,9 @@
-//! The six operations, as the C interface answers them, and the clause reader, which it has not.
+//! The seven operations, as the C interface answers them, and the clause reader and the reader of job lists, which it
+//! has not.
 
 use crate::derivation;
 use crate::enumerate;
+use crate::list::{self, Kind, Tally};
 use crate::rules::{self, Fault, Rules};
 use crate::tables::Tables;
 use crate::writer;
@@ -115,6 +117,13 @@ impl<'a> Solver<'a> {
         })
     }
 
+    /// Takes the verdict into a tally: the verdict's number alone, and the tally's five counts afterwards.
+    pub fn tally(&self, lo: u64, hi: u64, mut tally: Tally) -> Answer {
+        let verdict = self.verdict(lo, hi);
+        tally.take(Kind::of(&verdict));
+        Answer { code: verdict.code, numbers: tally.0.to_vec(), ..Answer::default() }
+    }
+
     pub fn cut(&self, level: u64) -> Answer {
         self.with(|rules| {
             if level > rules.n() as u64 {
@@ -159,6 +168,23 @@ pub fn clauses(rule: &[u8]) -> Answer {
     for clause in &clauses {
         numbers.push(clause.len() as u64);
         numbers.extend(clause.iter().map(|&literal| u64::from(literal)));
+    }
+    Answer { numbers, ..Answer::default() }
+}
+
+/// What the reader of job lists gives: how many lines there are, then for each the length of the name and the limits,
+/// or 0 for a line of another form.
+pub fn jobs(list: &[u8]) -> Answer {
+    let jobs = match list::read(list) {
+        Ok(jobs) => jobs,
+        Err(fault) => return Answer::refused(fault),
+    };
+    let mut numbers = vec![jobs.len() as u64];
+    for job in &jobs {
+        match job {
+            Some(job) => numbers.extend([job.name.len() as u64, job.lo, job.hi]),
+            None => numbers.push(0),
+        }
     }
     Answer { numbers, ..Answer::default() }
 }

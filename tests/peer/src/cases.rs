@@ -1,7 +1,8 @@
 //! Run samples: a rule file, an operation and the answer that it must give. The program `run_samples` takes them as
 //! records and answers each by a line; `samples` says the form of both.
 
-use crate::answer::{answer, clauses, Answer, Solver};
+use crate::answer::{answer, clauses, jobs, Answer, Solver};
+use crate::list::Tally;
 use crate::to_bytes;
 
 #[derive(Clone, Debug, PartialEq, Eq)]
@@ -15,6 +16,10 @@ pub enum Operation {
     Derive(usize),
     /// The clause reader, from clause 0 until none is left.
     Clauses,
+    /// The reader of job lists; the list stands in the rule file's place.
+    Jobs,
+    /// The verdict with these limits, taken into a tally of these counts.
+    Tally(u64, u64, [u32; 5]),
 }
 
 #[derive(Clone, Debug, PartialEq, Eq)]
@@ -36,19 +41,23 @@ impl Case {
             Operation::Check(derivation) => solver.check(derivation),
             Operation::Derive(capacity) => solver.derive(*capacity),
             Operation::Clauses => clauses(&self.rule),
+            Operation::Jobs => jobs(&self.rule),
+            Operation::Tally(lo, hi, counts) => solver.tally(*lo, *hi, Tally(counts.map(u64::from))),
         })
     }
 
     /// The case as a record of the program `run_samples`.
     pub fn record(&self) -> Vec<u8> {
-        let (operation, a, b, second): (u32, u64, u64, &[u8]) = match &self.operation {
-            Operation::Read => (1, 0, 0, &[]),
-            Operation::Figure => (2, 0, 0, &[]),
-            Operation::Verdict(lo, hi) => (3, *lo, *hi, &[]),
-            Operation::Cut(level) => (4, *level, 0, &[]),
-            Operation::Check(derivation) => (5, 0, 0, derivation),
-            Operation::Clauses => (6, 0, 0, &[]),
-            Operation::Derive(capacity) => (7, *capacity as u64, 0, &self.expected.written),
+        let (operation, a, b, second) = match &self.operation {
+            Operation::Read => (1, 0, 0, Vec::new()),
+            Operation::Figure => (2, 0, 0, Vec::new()),
+            Operation::Verdict(lo, hi) => (3, *lo, *hi, Vec::new()),
+            Operation::Cut(level) => (4, *level, 0, Vec::new()),
+            Operation::Check(derivation) => (5, 0, 0, derivation.clone()),
+            Operation::Clauses => (6, 0, 0, Vec::new()),
+            Operation::Derive(capacity) => (7, *capacity as u64, 0, self.expected.written.clone()),
+            Operation::Jobs => (8, 0, 0, Vec::new()),
+            Operation::Tally(lo, hi, counts) => (9, *lo, *hi, to_bytes(counts)),
         };
         let mut record = to_bytes(&[operation]);
         record.extend([a, b].iter().flat_map(|number| number.to_le_bytes()));
@@ -68,7 +77,23 @@ impl Case {
             (Operation::Verdict(..), [_, figure]) => format!("{code} within {figure}\n"),
             (Operation::Clauses, _) if *code == 0 => all + " none\n",
             (Operation::Derive(_), _) => all + " right\n",
+            (Operation::Jobs, [count, jobs @ ..]) => format!("{code} {count}{}\n", words_of(jobs)),
             _ => all + "\n",
         }
     }
+}
+
+/// The words for the lines of a job list, each after a blank.
+fn words_of(jobs: &[u64]) -> String {
+    let (mut words, mut numbers) = (String::new(), jobs.iter());
+    while let Some(length) = numbers.next() {
+        if *length == 0 {
+            words += " other";
+            continue;
+        }
+        for number in [length].into_iter().chain(numbers.by_ref().take(2)) {
+            words += &format!(" {number}");
+        }
+    }
+    words
 }

@@ -10,6 +10,7 @@ mod raw {
         pub fn ssat_cut(rule: *const u8, len: usize, level: u64, out: *mut u64) -> u32;
         pub fn ssat_check(rule: *const u8, len: usize, derivation: *const u8, dlen: usize, out: *mut u64) -> u32;
         pub fn ssat_derive(rule: *const u8, len: usize, buffer: *mut u8, capacity: usize, out: *mut u64) -> u32;
+        pub fn ssat_tally(rule: *const u8, len: usize, lo: u64, hi: u64, tally: *mut u64) -> u32;
     }
 }
 
@@ -132,13 +133,22 @@ impl Library {
         self.derivation.pages.read_only(on);
     }
 
-    /// Calls with `out` at the end of its pages and looks at all lent bytes afterwards.
+    /// Calls an operation that puts its answer into `out`.
     fn call(&mut self, call: impl FnOnce(*const u8, usize, *const u8, usize, *mut u64) -> u32) -> Returned {
+        self.call_with(BEFORE, call)
+    }
+
+    /// Calls with the numbers `before` in `out`, at the end of its pages, and looks at all lent bytes afterwards.
+    fn call_with<const N: usize>(
+        &mut self,
+        before: [u64; N],
+        call: impl FnOnce(*const u8, usize, *const u8, usize, *mut u64) -> u32,
+    ) -> (u32, [u64; N]) {
         let all = self.out.all();
-        let end = all.len();
+        let start = all.len() - 8 * N;
         all.fill(FILL);
-        let out: *mut [u64; 4] = all[end - 32..].as_mut_ptr().cast();
-        unsafe { out.write(BEFORE) };
+        let out: *mut [u64; N] = all[start..].as_mut_ptr().cast();
+        unsafe { out.write(before) };
         let (rule, len) = (self.rule.start(), self.rule.bytes.len());
         let (derivation, dlen) = (self.derivation.start(), self.derivation.bytes.len());
         let code = call(rule, len, derivation, dlen, out.cast());
@@ -146,7 +156,7 @@ impl Library {
         self.derivation.unchanged("derivation");
         let after = unsafe { out.read() };
         let all = self.out.all();
-        assert!(all[..end - 32].iter().all(|byte| *byte == FILL), "a byte before `out` changed");
+        assert!(all[..start].iter().all(|byte| *byte == FILL), "a byte before `out` changed");
         (code, after)
     }
 
@@ -160,6 +170,11 @@ impl Library {
 
     pub fn verdict(&mut self, lo: u64, hi: u64) -> Returned {
         self.call(|rule, len, _, _, out| unsafe { raw::ssat_verdict(rule, len, lo, hi, out) })
+    }
+
+    /// Lends a tally of these counts: also what they are after the call.
+    pub fn tally(&mut self, lo: u64, hi: u64, counts: [u64; 5]) -> (u32, [u64; 5]) {
+        self.call_with(counts, |rule, len, _, _, tally| unsafe { raw::ssat_tally(rule, len, lo, hi, tally) })
     }
 
     pub fn cut(&mut self, level: u64) -> Returned {

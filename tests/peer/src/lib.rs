@@ -1,16 +1,17 @@
 //! A second SSAT solver, written apart from the proved one and not proved.
 //!
-//! It reads the same files and answers the same six operations and the clause reader, by its own
-//! methods, so that the two can be compared. A set of literals is kept as a 64-bit mask (bit `l` for literal
-//! `l`): with at most 32 variables every literal is under 64.
+//! It reads the same files and answers the same seven operations, the clause reader and the job lists of the program
+//! `ssat_tally`, by its own methods, so that the two can be compared. A set of literals is kept as a 64-bit mask (bit
+//! `l` for literal `l`): with at most 32 variables every literal is under 64.
 //!
 //! The library links `libssat_c.a` from the directory in SSAT_LIB_DIR (a relative one is taken
-//! from this package), else from `../../target/staticlib`. With `--features no-ffi` it links
+//! from this package), else from `../../target/staticlib`. The tests run `ssat_tally` from the
+//! directory in SSAT_BIN_DIR, else from `../../target/bin`. With `--features no-ffi` the library links
 //! nothing and the tests that need the proved solver are left out.
 //!
 //!     cargo test --release                    all tests
 //!     cargo test --release -- --nocapture     with the counts of what was answered
-//!     cargo run --release --features no-ffi --bin make_samples ../../crates/run_samples
+//!     cargo run --release --features no-ffi --bin make_samples ../../crates
 //!     cargo bench                             the benchmark, ../../bench/main.rs
 //!
 //! The random files are the same in every run. PEER_SEED gives others, PEER_ROUNDS so many times
@@ -24,6 +25,7 @@ pub mod enumerate;
 pub mod ffi;
 pub mod generate;
 pub mod guard;
+pub mod list;
 pub mod near;
 pub mod random;
 pub mod rules;

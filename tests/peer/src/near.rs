@@ -1,5 +1,7 @@
 //! Notions of a clash that are nearly document 02's. Random files are to tell them from it: those cuts are counted that
-//! have other numbers by another notion.
+//! have other numbers by another notion. `lists` has the same for job lists.
+
+pub mod lists;
 
 use crate::enumerate::{clash, cut, cut_with, Clash, Node};
 use crate::rules::Rules;

@@ -6,15 +6,16 @@
 //!
 //! | Words | Content |
 //! |---|---|
-//! | 0 | the operation: 1 read, 2 figure, 3 verdict, 4 cut, 5 check, 6 clauses, 7 derive |
-//! | 1, 2 | the verdict's lo, the cut's level or the length of the writer's buffer, low word first; else 0 |
-//! | 3, 4 | the verdict's hi; else 0 |
-//! | 5 | the length of the rule file in bytes |
-//! | 6 | the length of the derivation in bytes: for 5 the one to check, for 7 the one to be written; else 0 |
+//! | 0 | the operation: 1 read, 2 figure, 3 verdict, 4 cut, 5 check, 6 clauses, 7 derive, 8 jobs, 9 tally |
+//! | 1, 2 | for 3 and 9 lo, the cut's level or the length of the writer's buffer, low word first; else 0 |
+//! | 3, 4 | for 3 and 9 hi; else 0 |
+//! | 5 | the length of the rule file in bytes; for 8 that of the job list, which stands in its place |
+//! | 6 | for 5 the length of the derivation to check in bytes, for 7 of the one to be written, for 9 20; else 0 |
 //!
-//! Then come the bytes of the rule file and those of the derivation. It answers each record by a line, closed by a line
-//! feed. A refusal is its number, with a blank and the clause, variable or line at fault where one is given. An answer
-//! begins with `0`; each further word or number stands after one blank, numbers in decimal:
+//! Then come the bytes of the rule file and those of the derivation; for 9 the tally's five counts, a word each, in the
+//! derivation's place. It answers each record by a line, closed by a line feed. A refusal is its number, with a blank
+//! and the clause, variable or line at fault where one is given. An answer begins with `0`; each further word or number
+//! stands after one blank, numbers in decimal:
 //!
 //! | Operation | Line |
 //! |---|---|
@@ -25,14 +26,20 @@
 //! | 5 | `0 value whole` |
 //! | 6 | `0`, then for each clause in order its length and its literals as they stand, then `none` |
 //! | 7 | `0 length right`; `right` stands after a refusal too |
+//! | 8 | `0` and the count of lines, then for each the length of its name and its limits, or `other` |
+//! | 9 | the number of the verdict's refusal or `0`, then the five counts with the result taken in |
 //!
 //! So 6 gives `0 2 0 2 1 3 2 2 4 none` for clauses {0, 2}, {3}, {2, 4}, and `0 none` where there are no clauses. For 7
 //! the line ends in `wrong` instead if the buffer is another than it must be: the derivation, and after it what was
 //! there before.
 
+mod lists;
+
+pub use lists::{run, Run};
+
 use crate::answer::Answer;
 use crate::cases::{Case, Operation};
-use crate::generate::{sample, RuleDraft};
+use crate::generate::{longest_rule, sample, RuleDraft};
 use crate::to_bytes;
 use crate::writer::{DerivationDraft, LineDraft};
 
@@ -127,6 +134,8 @@ pub fn cases() -> Vec<Case> {
     clauses(&mut list);
     written(&mut list);
     written_lengths(&mut list);
+    lists::job_lists(&mut list);
+    lists::tallies(&mut list);
     list.0
 }
 
@@ -194,7 +203,7 @@ fn readings(list: &mut List) {
         bytes.resize(len, 0);
         list.add(format!("length-{len}"), &bytes, Operation::Read, 1, &[]);
     }
-    let longest = longest_rule();
+    let longest = longest_rule([0, 0]);
     list.read("length-65536", &longest.words(), 0, &[32, 1_024, 16_316, 1]);
     let mut longer = longest.clone();
     longer.clauses[1_023].push(31);
@@ -403,16 +412,6 @@ fn unordered(list: &mut List) {
     }
     add("buffer-0", Operation::Derive(0));
     add("buffer-65536", Operation::Derive(65_536));
-}
-
-/// 1,024 clauses over 32 existential variables in exactly 65,536 bytes. Clause {0} decides both
-/// sides of variable 0.
-fn longest_rule() -> RuleDraft {
-    let mut clauses = vec![vec![0]];
-    for at in 0..1_023 {
-        clauses.push((0..if at < 969 { 15 } else { 14 }).map(|v| 2 * v).collect());
-    }
-    RuleDraft { clauses, prefix: vec![[0, 0]; 32] }
 }
 
 /// Two faults in one file: the one that is looked for first is told.

@@ -1,8 +1,9 @@
-//! The peer by itself: document 01's samples, and its methods against each other.
+//! The peer by itself: document 01's samples, its methods against each other, and document 02's job lists and tallies.
 
 use peer::answer::{answer, Answer};
-use peer::generate::{self, RuleDraft};
-use peer::near::Told;
+use peer::generate::{self, Folder, RuleDraft, Seen};
+use peer::list::{self, Job, Kind, Tally};
+use peer::near::{self, Told};
 use peer::random::Random;
 use peer::rules::{self, Rules};
 use peer::tables::Tables;
@@ -391,4 +392,166 @@ fn no_wrapping() {
     assert_eq!(fault(&rule.words()), Some((9, None)));
     // 2n modulo 2^32.
     assert_eq!(fault(&[0, 1 << 31, 0, 4]), Some((3, None)));
+}
+
+/// What is a line, and where: closed by a line feed or by the end, unless it is empty there.
+#[test]
+fn lines_of_lists() {
+    let check = |list: &[u8], lines: &[&[u8]]| assert_eq!(list::lines(list), lines, "{}", list.escape_ascii());
+    check(b"", &[]);
+    check(b"\n", &[b""]);
+    check(b"\n\n", &[b"", b""]);
+    check(b"x", &[b"x"]);
+    check(b"x\n", &[b"x"]);
+    check(b"x\n\n", &[b"x", b""]);
+    check(b"\nx", &[b"", b"x"]);
+    check(b"x\ny", &[b"x", b"y"]);
+    check(b"x\n\ny\n", &[b"x", b"", b"y"]);
+    check(b"x\r\n\0", &[b"x\r", b"\0"]);
+}
+
+/// Lines on both sides of each border of their form.
+#[test]
+fn jobs_of_lines() {
+    let read = |line: &[u8], name: &[u8], lo, hi| {
+        assert_eq!(list::job(line), Some(Job { name, lo, hi }), "{}", line.escape_ascii());
+    };
+    let other = |line: &[u8]| assert_eq!(list::job(line), None, "{}", line.escape_ascii());
+
+    read(b"a 0 1", b"a", 0, 1);
+    read(b"a 1 0", b"a", 1, 0);
+    read(b"12 34 56", b"12", 34, 56);
+    // Blanks: two, and none more.
+    for line in ["", " ", "  ", "a", "a ", "a 0", "a 0 ", "a  1", " 0 1", " a 0 1", "a 0 1 ", "a  0 1", "a 0  1"] {
+        other(line.as_bytes());
+    }
+    other(b"a 0 1 2");
+    // A tab or byte 13 is a part of the name, and spoils a limit.
+    read(b"\ta 0 1", b"\ta", 0, 1);
+    read(b"a\t 0 1", b"a\t", 0, 1);
+    read(b"\r 0 1", b"\r", 0, 1);
+    for line in ["a\t0 1", "a 0\t1", "a\t0\t1", "a \t0 1", "a 0 1\t", "a 0 1\r", "a 0\r 1", "\r"] {
+        other(line.as_bytes());
+    }
+    // Names.
+    read(b"../x/\xff\x80 0 1", b"../x/\xff\x80", 0, 1);
+    read(b"\x01\x7f 0 1", b"\x01\x7f", 0, 1);
+    for line in ["\0 0 1", "\0a 0 1", "a\0 0 1", "a\0b 0 1", "a 0\0 1", "a 0 1\0"] {
+        other(line.as_bytes());
+    }
+
+    // Limits, as the lower and as the upper one.
+    let both = |text: &str, limit: Option<u64>| {
+        let lines = [format!("a {text} 7"), format!("a 7 {text}")];
+        let limits = lines.each_ref().map(|line| list::job(line.as_bytes()).map(|job| [job.lo, job.hi]));
+        assert_eq!(limits, [limit.map(|limit| [limit, 7]), limit.map(|limit| [7, limit])], "{text}");
+    };
+    both("9", Some(9));
+    both("10", Some(10));
+    both("18446744073709551614", Some(u64::MAX - 1));
+    both("18446744073709551615", Some(u64::MAX));
+    both("9999999999999999999", Some(9_999_999_999_999_999_999));
+    both("10000000000000000000", Some(10_000_000_000_000_000_000));
+    both("18446744073709551609", Some(u64::MAX - 6));
+    for text in ["18446744073709551616", "18446744073709551620", "18446744073709552000", "20000000000000000000"] {
+        both(text, None);
+    }
+    for text in ["99999999999999999999", "100000000000000000000", "184467440737095516160", "36893488147419103232"] {
+        both(text, None);
+    }
+    // 2^128 and 7 more: modulo 2^64 it is 0 and 7.
+    both("340282366920938463463374607431768211456", None);
+    both("340282366920938463463374607431768211463", None);
+    both("0", Some(0));
+    both("00", Some(0));
+    both(&"0".repeat(40), Some(0));
+    both("000000000000000000000000000012", Some(12));
+    both(&format!("{}18446744073709551615", "0".repeat(300)), Some(u64::MAX));
+    both(&format!("{}18446744073709551616", "0".repeat(300)), None);
+    for text in ["+1", "-1", "-0", "1.", "1,0", "1_0", "0x1", "1e1", "a", "/", ":", "1/", "1:", "\u{661}"] {
+        both(text, None);
+    }
+}
+
+/// 24 on both sides of its borders, each alone.
+#[test]
+fn lengths_of_lists() {
+    let lines = |list: &[u8]| list::read(list).map(|jobs| jobs.len());
+    let refused = Err((24, None));
+    assert_eq!(lines(&[b'\n'; 4_096]), Ok(4_096));
+    assert_eq!(lines(&[b'\n'; 4_097]), refused);
+    assert_eq!(lines(&[&[b'\n'; 4_095][..], b"x"].concat()), Ok(4_096));
+    assert_eq!(lines(&[&[b'\n'; 4_096][..], b"x"].concat()), refused);
+    assert_eq!(lines(&b"a 0 00000000001\n".repeat(4_096)), Ok(4_096));
+    assert_eq!(lines(&[b'x'; 65_536]), Ok(1));
+    assert_eq!(lines(&[b'x'; 65_537]), refused);
+    assert_eq!(lines(&[&[b'x'; 65_535][..], b"\n"].concat()), Ok(1));
+    assert_eq!(lines(&[&[b'x'; 65_536][..], b"\n"].concat()), refused);
+}
+
+/// A tally takes in a result unless one of its counts is 4,096 or more.
+#[test]
+fn tallies() {
+    let after = |counts: [u64; 5], kind| {
+        let mut tally = Tally(counts);
+        tally.take(kind);
+        tally.0
+    };
+    let kinds = [Kind::Refused, Kind::Above, Kind::Below, Kind::Within];
+    for (at, kind) in kinds.into_iter().enumerate() {
+        let mut one = [1, 0, 0, 0, 0];
+        one[at + 1] = 1;
+        assert_eq!(after([0; 5], kind), one);
+        assert_eq!(after([4_095; 5], kind), one.map(|count| 4_095 + count));
+        for place in 0..5 {
+            for (count, taken) in [(4_095, 1), (4_096, 0), (4_097, 0), (1 << 32, 0), (u64::MAX, 0)] {
+                let mut before = [0, 1, 2, 3, 4];
+                before[place] = count;
+                let mut wanted = before;
+                wanted[0] += taken;
+                wanted[at + 1] += taken;
+                assert_eq!(after(before, kind), wanted);
+            }
+        }
+    }
+    assert_eq!(Tally([10, 1, 2, 3, 4]).sheet(), "files 10\nrefused 1\nabove 2\nbelow 3\nwithin 4\n");
+}
+
+/// The sheets of lists that name document 01's file, of figure 12 out of 50.
+#[test]
+fn sheets() {
+    let file = generate::sample().0.bytes();
+    let judge = |job: &Job| match job.name {
+        b"sample" => Kind::of(&answer(&file, |solver| solver.verdict(job.lo, job.hi))),
+        b"refused" => Kind::of(&answer(b"", |solver| solver.verdict(job.lo, job.hi))),
+        _ => Kind::Refused,
+    };
+    let check = |list: &[u8], [files, refused, above, below, within]: [u64; 5]| {
+        let wanted = format!("files {files}\nrefused {refused}\nabove {above}\nbelow {below}\nwithin {within}\n");
+        assert_eq!(list::sheet(list, judge), wanted, "{}", list.escape_ascii());
+    };
+    check(b"", [0; 5]);
+    check(b"\n", [1, 1, 0, 0, 0]);
+    check(b"sample 0 11", [1, 0, 1, 0, 0]);
+    check(b"sample 13 50\n", [1, 0, 0, 1, 0]);
+    check(b"sample 12 12\nsample 0 12\nsample 12 50\nsample 0 50", [4, 0, 0, 0, 4]);
+    check(b"sample 13 12\nsample 0 51\nrefused 0 50\nmissing 0 50\nsample 0\n\n", [6, 6, 0, 0, 0]);
+    check(b"sample 0 11\n\nsample 13 50\nsample 1 2\nsample 12 12", [5, 1, 2, 1, 1]);
+    check(&b"sample 0 50\n".repeat(4_096), [4_096, 0, 0, 0, 4_096]);
+    assert_eq!(list::sheet(&b"sample 0 50\n".repeat(4_097), judge), "refused 24\n");
+}
+
+/// Random lists have lines of all shapes, and tell document 02's reading from what is nearly it.
+#[test]
+fn near_lists_are_told() {
+    let mut random = Random::new(8);
+    let folder = Folder::new(&mut random);
+    let (mut seen, mut told) = (Seen::default(), near::lists::Told::default());
+    for _ in 0..2_000 {
+        let draft = generate::list(&mut random, &folder);
+        seen.take(&draft, &folder);
+        told.take(&draft.bytes(), |job| folder.kind(job));
+    }
+    seen.reached(15, 5_000, 40);
+    told.reached(20);
 }

@@ -1,4 +1,4 @@
-//! The proved solver against the peer on rule files: reading, figure, verdict, cut and the writer.
+//! The proved solver against the peer on rule files: reading, figure, verdict, tally, cut and the writer.
 
 #![cfg(not(feature = "no-ffi"))]
 
@@ -29,6 +29,7 @@ fn valid_files() {
     pair.reached(CHECK, [0], 35_000);
     assert!(pair.verdicts.iter().all(|count| *count > 1_000), "within, above, below: {:?}", pair.verdicts);
     pair.clashed([3_000, 5_000, 2_000], 300);
+    pair.tallied.reached(1_000);
 }
 
 /// Files in which clauses clash or nearly do: enough cuts tell document 02's clash from what is nearly one.
@@ -62,11 +63,7 @@ fn long_files() {
         }
     }
     // Around the longest file that is accepted: 65,536 bytes.
-    let mut clauses = vec![vec![0]];
-    for at in 0..1_023 {
-        clauses.push((0..if at < 969 { 15 } else { 14 }).map(|v| 2 * v).collect());
-    }
-    let words = RuleDraft { clauses, prefix: vec![[1, 2]; 32] }.words();
+    let words = generate::longest_rule([1, 2]).words();
     assert_eq!(words.len(), 16_384);
     pair.rule(&mut random, &to_bytes(&words));
     for extra in 1..=4_096 {
@@ -244,6 +241,7 @@ fn read_only_pages() {
         library.read();
         library.figure();
         library.verdict(0, 1);
+        library.tally(0, 1, [0; 5]);
         library.cut(2);
         library.check();
         library.derive(200, Place::AtEnd);

@@ -1,6 +1,10 @@
 //! The run samples against their stored answers: the peer and the proved solver.
 
 use peer::samples;
+use std::collections::BTreeSet;
+use std::ffi::OsString;
+use std::fs::{read, read_dir, read_to_string};
+use std::path::Path;
 
 /// The peer gives the answers that were derived by hand.
 #[test]
@@ -20,16 +24,33 @@ fn program() {
     assert!(lines == include_str!("../../../crates/run_samples/stdout"), "stdout is not as made");
 }
 
-/// Every number from 0 to 23 is among the answers.
+/// The program `ssat_tally` is run on this list and these files, and held to this sheet.
+#[test]
+fn tally_program() {
+    let run = samples::run();
+    assert_eq!(run.solve(), run.sheet);
+    let folder = Path::new(env!("CARGO_MANIFEST_DIR")).join("../../crates/ssat_tally");
+    assert!(read(folder.join("stdin")).unwrap() == run.list, "stdin is not as made");
+    assert!(read_to_string(folder.join("stdout")).unwrap() == run.sheet, "stdout is not as made");
+    let names: BTreeSet<OsString> =
+        read_dir(folder.join("data")).unwrap().map(|file| file.unwrap().file_name()).collect();
+    assert_eq!(names, run.files.iter().map(|(name, _)| name.into()).collect(), "data has other files");
+    for (name, bytes) in &run.files {
+        assert!(read(folder.join("data").join(name)).unwrap() == *bytes, "{name} is not as made");
+    }
+}
+
+/// Every number from 0 to 24 is among the answers.
 #[test]
 fn every_number() {
     let cases = samples::cases();
-    for code in 0..=23 {
+    for code in 0..=24 {
         assert!(cases.iter().any(|case| case.expected.code == code), "no case for {code}");
     }
 }
 
-/// The proved solver through its C interface, which has no clause reader: the program `run_samples` alone runs that.
+/// The proved solver through its C interface, which has no clause reader and no reader of job lists: the program
+/// `run_samples` alone runs those.
 #[cfg(not(feature = "no-ffi"))]
 #[test]
 fn library() {
@@ -53,7 +74,12 @@ fn library() {
                     assert!(buffer == case.expected.buffer(&buffer_before(*capacity)), "{}: another buffer", case.name);
                     got
                 }
-                Operation::Clauses => continue,
+                Operation::Tally(lo, hi, counts) => {
+                    let (code, counts) = library.tally(*lo, *hi, counts.map(u64::from));
+                    assert_eq!((code, &counts[..]), (case.expected.code, &case.expected.numbers[..]), "{}", case.name);
+                    continue;
+                }
+                Operation::Clauses | Operation::Jobs => continue,
             };
             assert_eq!(got, (case.expected.code, case.expected.out(BEFORE)), "{}", case.name);
         }

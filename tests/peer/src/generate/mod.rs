@@ -1,9 +1,11 @@
-//! Makers of rule files and derivations: random ones, valid ones and damaged ones.
+//! Makers of rule files and derivations, random ones, valid ones and damaged ones, and of job lists.
 
 mod derivations;
+mod lists;
 mod rule_files;
 
 pub use derivations::*;
+pub use lists::*;
 pub use rule_files::*;
 
 use crate::random::Random;
@@ -53,6 +55,16 @@ pub fn sample() -> (RuleDraft, DerivationDraft) {
         line(&[], 12, Some([0, 5, 7])),
     ];
     (rule, DerivationDraft { lines, closing: 9 })
+}
+
+/// 1,024 clauses over 32 variables of these weights in exactly 65,536 bytes. Clause {0} decides both sides of
+/// variable 0.
+pub fn longest_rule(pair: [u32; 2]) -> RuleDraft {
+    let mut clauses = vec![vec![0]];
+    for at in 0..1_023 {
+        clauses.push((0..if at < 969 { 15 } else { 14 }).map(|v| 2 * v).collect());
+    }
+    RuleDraft { clauses, prefix: vec![pair; 32] }
 }
 
 /// Puts one or more of these lists, whose literals rise, out of order and gives the first that it took; none if no list

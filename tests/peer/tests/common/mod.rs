@@ -2,6 +2,8 @@
 
 use peer::answer::{Answer, Solver};
 use peer::ffi::{buffer_before, Library, Place, Returned, BEFORE, LONGEST};
+use peer::generate;
+use peer::list::{Kind, Tally};
 use peer::near::kind_of_level;
 use peer::random::Random;
 use peer::rules;
@@ -36,6 +38,40 @@ pub struct Pair {
     pub by_clashes: [u64; 3],
     /// How many of them have another open weight alone.
     pub open_alone: u64,
+    pub tallied: Tallied,
+}
+
+/// What the tallies were that results were to be taken into.
+#[derive(Debug, Default)]
+pub struct Tallied {
+    /// How many results of each kind were taken in, and how many were not.
+    kinds: [[u64; 2]; 5],
+    /// For each of the five counts, how often it was 4,095, 4,096 and one that is small modulo 2^32, with the others
+    /// under 4,095.
+    borders: [[u64; 3]; 5],
+}
+
+impl Tallied {
+    fn take(&mut self, kind: Kind, tally: Tally) {
+        self.kinds[kind as usize][usize::from(tally.is_full())] += 1;
+        for (place, count) in tally.0.into_iter().enumerate() {
+            let border = match count {
+                4_095 => 0,
+                4_096 => 1,
+                _ if count >= 1 << 32 && count % (1 << 32) < 4_096 => 2,
+                _ => continue,
+            };
+            let alone = (0..5).all(|other| other == place || tally.0[other] < 4_095);
+            self.borders[place][border] += u64::from(alone);
+        }
+    }
+
+    /// Prints the counts (seen with `--nocapture`) and fails unless each is at least `least`.
+    pub fn reached(&self, least: u64) {
+        println!("  results taken in, not: {:?}; counts at a border: {:?}", &self.kinds[1..], self.borders);
+        let enough = self.kinds[1..].iter().flatten().chain(self.borders.iter().flatten()).all(|count| *count >= least);
+        assert!(enough, "{self:?}");
+    }
 }
 
 /// The number of rounds, times the variable PEER_ROUNDS if it is set.
@@ -66,6 +102,7 @@ impl Pair {
             later: [[0; NUMBERS]; 6],
             by_clashes: [0; 3],
             open_alone: 0,
+            tallied: Tallied::default(),
         }
     }
 
@@ -117,8 +154,20 @@ impl Pair {
             if random.once_in(20) {
                 lo = random.pick(&[whole + 1, whole + 2, u64::MAX]);
             }
+            let verdict = solver.verdict(lo, hi);
             let got = self.library.verdict(lo, hi);
-            self.same(VERDICT, &solver.verdict(lo, hi), got, || format!("limits {lo} {hi}, {}", input()));
+            self.same(VERDICT, &verdict, got, || format!("limits {lo} {hi}, {}", input()));
+
+            let tally = generate::tally(random);
+            let expected = solver.tally(lo, hi, tally);
+            let (code, counts) = self.library.tally(lo, hi, tally.0);
+            let same = code == expected.code && counts[..] == expected.numbers;
+            assert!(
+                same,
+                "tally {tally:?}: library {code} {counts:?}, peer {expected:?}\nlimits {lo} {hi}, {}",
+                input()
+            );
+            self.tallied.take(Kind::of(&verdict), tally);
         }
 
         let most = if rules.is_ok() { n } else { 0 };

@@ -1,0 +1,3 @@
+-- Document 02's job list.
+pub mod JobList
+pub mod ListLine

@@ -1,0 +1,41 @@
+-- `answer` meets its contract, by what `read_list` answered. Assumes nothing.
+use mathlib.Core.Path.{sym, ap, _∙_}
+use Rattle.buffer.proofs.TextLaws.{put-at-start}
+use Rattle.job_list.specs.JobList.{listing}
+use Rattle.job_list.proofs.ListLaws.{accepted-list}
+use Rattle.ssat_tally.proofs.ResultsLaws.{printed-refusal, printed-sheet}
+use borrow.Author.Needs.{needs}
+use Rattle.ssat_tally.proofs.answer.Statement.{statement}
+use Rattle.ssat_tally.proofs.answer.Tie as tie
+
+tally-lines-requires : tie.Need-tally-lines-requires
+tally-lines-requires c κs =
+    accepted-list _ _ (sym (c .before .before .read-list .ensures .0) ∙ ap listing (c .enum-told .given .1)) .bytes
+
+returns : tie.Need-returns
+returns c =
+    let told = c .before .before .before in
+    let (within, _, text, _) = put-at-start (c .put-refusal .ensures) in
+    (within, printed-refusal _ _ _ (sym (told .before .before .read-list .ensures .0) ∙ ap listing (told .refusal .given .1)) text)
+
+returns-2 : tie.Need-returns-2
+returns-2 c =
+    let counted = c .before .before in
+    let told = counted .before in
+    let (within, (_, (text, _))) = c .sheet .ensures in (
+      within,
+      printed-sheet _ _ _ _ (sym (told .before .before .read-list .ensures .0) ∙ ap listing (told .enum-told .given .1)) (counted .tally-lines .ensures) text,
+    )
+
+pub answer-spec : {M : Type 1} → statement M
+answer-spec =
+    tie.close
+    (tie.spec
+    (λ c κs. search needs)
+    (λ c. search needs)
+    (λ c κs. search needs)
+    (λ c. search needs)
+    tally-lines-requires
+    (λ c κs. search needs)
+    returns
+    returns-2)

@@ -1,0 +1,2 @@
+-- The program's results, one for each line of the list, and what it prints.
+pub mod Results

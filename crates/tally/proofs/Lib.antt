@@ -1,0 +1,2 @@
+-- Laws of the tally, and its theorem.
+pub mod TallyLaws

@@ -1,0 +1,2 @@
+-- What the tally takes in, and its five counts.
+pub mod Tally

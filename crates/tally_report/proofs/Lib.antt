@@ -1,0 +1,2 @@
+-- A sheet, computed.
+pub mod ExampleSheet

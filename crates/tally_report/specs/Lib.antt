@@ -1,0 +1,2 @@
+-- What the program ssat_tally prints.
+pub mod TallyReport
