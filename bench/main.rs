@@ -20,14 +20,14 @@ fn main() {
 
 #[cfg(not(feature = "no-ffi"))]
 mod bench {
-    use peer::ffi::plain;
+    use peer::ffi::{plain, read_small_on_stack};
     use peer::generate::{self, Freedom, RuleDraft};
     use peer::guard::on_stack;
     use peer::random::Random;
     use peer::rules::{self, Rules};
     use peer::tables::Tables;
     use peer::writer::{self, DerivationDraft, Limits, Writer};
-    use peer::{derivation, walk};
+    use peer::{answer, derivation, walk};
     use std::hint::black_box;
     use std::time::Instant;
 
@@ -419,11 +419,88 @@ mod bench {
         }
     }
 
+    // -----------------------------------------------------------------------------------------
+    // The two readers
+    // -----------------------------------------------------------------------------------------
+
+    /// So many calls are timed as one run: a call alone may take less than the clock.
+    const CALLS: usize = 100;
+
+    fn many<T>(mut call: impl FnMut() -> T) -> impl FnMut() {
+        move || {
+            for _ in 0..CALLS {
+                black_box(call());
+            }
+        }
+    }
+
+    /// Nanoseconds a call.
+    fn ns(seconds: f64) -> String {
+        format!("{:.0}", seconds * 1e9 / CALLS as f64)
+    }
+
+    /// As much as the small reader takes: 16 variables and 4,096 bytes. The clauses have `k` literals,
+    /// the last perhaps fewer.
+    fn full_rule(k: usize) -> RuleDraft {
+        const N: usize = 16;
+        let mut random = Random::new(8_000 + k as u64);
+        let words = [(); 1_024 - 4 - 2 * N];
+        let clauses = words
+            .chunks(1 + k)
+            .map(|words| generate::clause(&mut random, N, words.len() - 1))
+            .collect();
+        RuleDraft {
+            clauses,
+            prefix: vec![[1, 2]; N],
+        }
+    }
+
+    /// Both readers on files within the small limits, and the bench's on its longest. The stack is
+    /// that of the call alone.
+    fn readers() {
+        println!("| rule file | n | m | bytes | read, ns | read_small, ns | peer, ns | read / peer | read_small / read | stack of read_small, bytes |");
+        println!("|---|--:|--:|--:|--:|--:|--:|--:|--:|--:|");
+        for (name, rule) in [
+            ("the sample", generate::sample().0),
+            ("3 literals a clause", full_rule(3)),
+            ("15 literals a clause", full_rule(15)),
+            ("the longest", generate::longest_rule([1, 2])),
+        ] {
+            let file = rule.bytes();
+            let expected = answer::reading(&rules::read(&file));
+            assert_eq!(plain::read(&file), (0, expected.out([0; 4])));
+            let expected = answer::read_small(&file);
+            assert_eq!(
+                plain::read_small(&file),
+                (expected.code, expected.out([0; 4]))
+            );
+            let read = seconds_on_stack(&mut many(|| plain::read(black_box(&file)))).0;
+            let peer = seconds(many(|| rules::read(black_box(&file))));
+            let [mut time, mut to_read, mut stack] = ["-"; 3].map(str::to_string);
+            if expected.code == 0 {
+                let small = seconds_on_stack(&mut many(|| plain::read_small(black_box(&file)))).0;
+                (time, to_read) = (ns(small), ratio(small, read));
+                stack = read_small_on_stack(&file).1.to_string();
+            }
+            println!(
+                "| {name} | {} | {} | {} | {} | {time} | {} | {} | {to_read} | {stack} |",
+                rule.prefix.len(),
+                rule.clauses.len(),
+                file.len(),
+                ns(read),
+                ns(peer),
+                ratio(read, peer),
+            );
+        }
+    }
+
     pub fn main() {
         trees();
         println!();
         derivations();
         println!();
         writing();
+        println!();
+        readers();
     }
 }

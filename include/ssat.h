@@ -1,7 +1,7 @@
 /* SSAT: stochastic Boolean satisfiability, on rule files and derivation files. What the files hold, what their numbers
  * mean and where each refusal's border lies is in docs/FORMATS.md.
  *
- * Each of the seven functions returns 0 for an answer, else the number of the refusal. The answer depends on the
+ * Each of the eight functions returns 0 for an answer, else the number of the refusal. The answer depends on the
  * arguments alone; several threads may call at once. The whole is the product of the totals of all variables: the value
  * of the formula, out of the whole, is the maximum probability that every clause holds.
  *
@@ -19,7 +19,7 @@
  *                      23 the number of a clause, 8 that of a variable, 15 to 20 that of a line, each counted from 0.
  *   tally              five counts, lent for reading and writing; not null, aligned, and no part of the other buffers.
  *
- * Refusals of the rule file, by every function:
+ * Refusals of the rule file, by every function; ssat_read_small has 4,096 bytes in 1 and 16 variables in 3:
  *    1  length not a multiple of 4, under 16 or over 65,536 bytes
  *    2  the last word is not the word count
  *    3  more than 32 variables or more than 1,024 clauses
@@ -65,6 +65,12 @@ extern "C" {
  * out: number of variables, number of clauses, word where the prefix begins, whole.
  * Refusals: 1 to 9, 23. */
 uint32_t ssat_read(const uint8_t *rule, size_t len, uint64_t out[4]);
+
+/* Reads a rule file of at most 4,096 bytes and 16 variables, and answers as ssat_read does; one beyond these limits that
+ * ssat_read accepts is refused by 1 or 3. Uses under 1,024 bytes of stack.
+ * out: number of variables, number of clauses, word where the prefix begins, whole.
+ * Refusals: 1 to 9, 23. */
+uint32_t ssat_read_small(const uint8_t *rule, size_t len, uint64_t out[4]);
 
 /* The value of the formula, out of the whole.
  * out: value, whole, 0, 0.

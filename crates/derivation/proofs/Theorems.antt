@@ -9,7 +9,7 @@ use Prim.Native.Nat.{ℕ, _<_}
 use lib.ListN.{length}
 use Rattle.formula.specs.Formula.{unordered}
 use Rattle.formula.proofs.Membership.{none-of}
-use Rattle.rule_file.specs.Limits.{derivation-trailer}
+use Rattle.rule_file.specs.Limits.{max-bytes, derivation-trailer}
 use Rattle.rule_file.specs.RuleFile.{variable-count, clauses, prefix, whole}
 use Rattle.rule_file.specs.Answer.{answer}
 use Rattle.rule_file.specs.Reader.{read-file}
@@ -46,7 +46,7 @@ module _ (b d : List ℕ) (c : Closing) where
       let (p₁₆, e₁₇) = passed-at _ _ (check-from-17 b d) c e₁₆ in
       let (right-count, few-lines) = check-14 d .0 p₁₄ in (
         record {
-          right-counts = record { right-length = right-length derivation-trailer d .0 p₁₃; right-count = right-count; few-lines = few-lines };
+          right-counts = record { right-length = right-length derivation-trailer max-bytes d .0 p₁₃; right-count = right-count; few-lines = few-lines };
           walked = p₁₅;
           no-fault = first-none _ _ p₁₆;
         },
@@ -84,7 +84,7 @@ module _ (b d : List ℕ) (c : Closing) where
       let t = w .right-counts in
       rw (
         accepted-answers b (v .accepted),
-        right-length derivation-trailer d .1 (t .right-length),
+        right-length derivation-trailer max-bytes d .1 (t .right-length),
         check-14 d .1 (t .right-count, t .few-lines),
         w .walked,
         none-first-place (line-fails (variable-count b)) (lines d) (w .no-fault),

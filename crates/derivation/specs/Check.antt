@@ -6,7 +6,7 @@ use mathlib.Core.Option.{Option, none, some}
 use Prim.Native.Nat.{ℕ, _+_}
 use lib.Dec.{leb, ltb, eqb}
 use Rattle.formula.specs.Formula.{ill-formed}
-use Rattle.rule_file.specs.Limits.{derivation-trailer, max-lines}
+use Rattle.rule_file.specs.Limits.{max-bytes, derivation-trailer, max-lines}
 use Rattle.rule_file.specs.Walk.{first, walk}
 use Rattle.rule_file.specs.Words.{word-count, wrong-length, stated-count}
 use Rattle.rule_file.specs.RuleFile.{variable-count, clauses, prefix, whole}
@@ -62,7 +62,7 @@ check-from-15 b d =
     (check-from-17 b d))
 
 unfoldable pub check-from-13 : List ℕ → List ℕ → Answer Closing
-check-from-13 b d = refuse-if (wrong-length derivation-trailer d) 13 (refuse-if (wrong-counts d) 14 (check-from-15 b d))
+check-from-13 b d = refuse-if (wrong-length derivation-trailer max-bytes d) 13 (refuse-if (wrong-counts d) 14 (check-from-15 b d))
 
 -- the check's answer to the rule file b and the derivation d: the reader's refusals first
 unfoldable pub check-file : List ℕ → List ℕ → Answer Closing

@@ -5,7 +5,7 @@ use mathlib.Core.List.{List}
 use mathlib.Core.Option.{none}
 use Prim.Native.Nat.{ℕ, _≤_}
 use Rattle.formula.specs.Formula.{some-of}
-use Rattle.rule_file.specs.Limits.{derivation-trailer, max-lines}
+use Rattle.rule_file.specs.Limits.{max-bytes, derivation-trailer, max-lines}
 use Rattle.rule_file.specs.Words.{word-count, stated-count}
 use Rattle.rule_file.specs.Accepted.{Length}
 use Rattle.derivation.specs.DerivationFile.{trailer-start, line-count, lines}
@@ -13,7 +13,7 @@ use Rattle.derivation.specs.Check.{walk-lines, line-fails}
 
 -- what 13 and 14 leave: the length and the counts are right
 pub record RightCounts (d : List ℕ) : Type 0 where
-  pub right-length : Length derivation-trailer d
+  pub right-length : Length derivation-trailer max-bytes d
   pub right-count : stated-count d ≡ word-count d
   pub few-lines : line-count d ≤ max-lines
 

@@ -22,6 +22,7 @@ use rule_file::Header;
 use rule_file::Reading;
 use rule_file::Refusal;
 use rule_file::limits::DERIVATION_TRAILER;
+use rule_file::limits::MAX_BYTES;
 use rule_file::limits::MAX_LINES;
 use rule_file::read;
 use rule_file::words::has_wrong_length;
@@ -76,7 +77,7 @@ fn check_counts<'a>(rule: &'a [u8], derivation: &'a [u8], header: Header) -> Che
     requires { ⌜ header ≡ header-of (now rule) ⌝ }
     ensures { λ r. ⌜ checking r ≡ check-from-13 (now (rule .entry)) (now (derivation .entry)) ⌝ }
 {
-    if has_wrong_length(derivation, DERIVATION_TRAILER) {
+    if has_wrong_length(derivation, DERIVATION_TRAILER, MAX_BYTES) {
         return Checking::Refused(Refusal::Alone(13));
     }
     let count = derivation.len() / 4;

@@ -1,5 +1,5 @@
--- A file is answered exactly where it is Accepted, and then by its header; and what a caller of `read` knows by the
--- case of its answer. Assumes nothing.
+-- Within any limits a file is answered exactly where it is accepted, and then by its header; and what a caller of
+-- `read` knows by the case of its answer. Assumes nothing.
 use mathlib.Core.Path.{_≡_, refl, sym, ap, _∙_}
 use mathlib.Core.Bool.{Bool, true, false}
 use mathlib.Core.List.{List}
@@ -7,12 +7,13 @@ use mathlib.Core.Option.{Option, none, some}
 use Prim.Native.Nat.{ℕ}
 use native.Mathlib.Omega.{arith}
 use Rattle.formula.specs.Formula.{repeats}
-use Rattle.rule_file.specs.Limits.{rule-trailer}
+use Rattle.rule_file.specs.Limits.{rule-trailer, bench-limits}
 use Rattle.rule_file.specs.Walk.{first}
 use Rattle.rule_file.specs.RuleFile.{clauses}
 use Rattle.rule_file.specs.Answer.{Answer, refused, answer, refuse-if, refuse-at, and-then}
-use Rattle.rule_file.specs.Reader.{reading, read-file, read-from-3, read-from-5, read-from-6, read-from-8}
-use Rattle.rule_file.specs.Accepted.{Accepted, header}
+use Rattle.rule_file.specs.Reader.{reading, read-file, read-within, read-from-3, read-from-5, read-from-6, read-from-8}
+use Rattle.rule_file.specs.Accepted.{AcceptedWithin, Accepted, header}
+use Rattle.rule_file.specs.declared.limits.Limits.{Limits}
 use Rattle.rule_file.specs.declared.Header.{Header}
 use Rattle.rule_file.specs.declared.Refusal.{Refusal}
 use Rattle.rule_file.specs.declared.Reading.{Reading}
@@ -41,9 +42,9 @@ pub passed-then : {A B : Type 0} (r : Answer A) (f : A → Answer B) (x : B) →
 passed-then (refused r) f x e = absurd (answer-no-refusal r x e)
 passed-then (answer a) f x e = (a, refl, e)
 
-pub answered : (b : List ℕ) (h : Header) → read-file b ≡ answer h → Accepted b × (h ≡ header b)
-unfolding read-file read-from-3 read-from-5 read-from-6 read-from-8
-answered b h e =
+pub answered-within : (limits : Limits) (b : List ℕ) (h : Header) → read-within limits b ≡ answer h → AcceptedWithin limits b × (h ≡ header b)
+unfolding read-within read-from-3 read-from-5 read-from-6 read-from-8
+answered-within limits b h e =
     let (e₁, r₁) = passed _ _ _ h e in
     let (e₂, r₂) = passed _ _ _ h r₁ in
     let (e₃, r₃) = passed _ _ _ h r₂ in
@@ -54,9 +55,9 @@ answered b h e =
     let (e₂₃, r₂₃) = passed-at _ _ _ h r₇ in
     let (e₈, r₈) = passed-at _ _ _ h r₂₃ in
     let (e₉, r₉) = passed _ _ _ h r₈ in
-    let counts = check-3 b .0 e₃ in (
+    let counts = check-3 _ b .0 e₃ in (
       record {
-        right-length = right-length rule-trailer b .0 e₁;
+        right-length = right-length rule-trailer _ b .0 e₁;
         right-count = check-2 b .0 e₂;
         few-variables = counts .0;
         few-clauses = counts .1;
@@ -70,13 +71,13 @@ answered b h e =
       same-answer h (header b) (sym r₉),
     )
 
-pub accepted-answers : (b : List ℕ) → Accepted b → read-file b ≡ answer (header b)
-unfolding read-file read-from-3 read-from-5 read-from-6 read-from-8
-accepted-answers b a =
+pub within-answers : (limits : Limits) (b : List ℕ) → AcceptedWithin limits b → read-within limits b ≡ answer (header b)
+unfolding read-within read-from-3 read-from-5 read-from-6 read-from-8
+within-answers limits b a =
     rw (
-      right-length rule-trailer b .1 (a .right-length),
+      right-length rule-trailer _ b .1 (a .right-length),
       check-2 b .1 (a .right-count),
-      check-3 b .1 (a .few-variables, a .few-clauses),
+      check-3 _ b .1 (a .few-variables, a .few-clauses),
       check-4 b .1 (a .prefix-ends),
       a .walked,
       none-first-place _ _ (a .in-range),
@@ -85,6 +86,15 @@ accepted-answers b a =
       none-first-place _ _ (a .well-formed),
       check-9 b .1 (a .bounded),
     )
+
+-- the same of the bench's reader
+pub answered : (b : List ℕ) (h : Header) → read-file b ≡ answer h → Accepted b × (h ≡ header b)
+unfolding read-file
+answered = answered-within bench-limits
+
+pub accepted-answers : (b : List ℕ) → Accepted b → read-file b ≡ answer (header b)
+unfolding read-file
+accepted-answers = within-answers bench-limits
 
 -- what the reader answered, for a caller that goes by the case of it
 module _ (b : List ℕ) (r : Reading) where

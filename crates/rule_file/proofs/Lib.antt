@@ -5,3 +5,4 @@ pub mod ClauseLaws
 pub mod PrefixLaws
 pub mod ReaderLaws
 pub mod AcceptedLaws
+pub mod TwoReaders

@@ -11,7 +11,7 @@ use Rattle.formula.specs.Formula.{some-of, out-of-range, repeats, unordered, il
 use Rattle.formula.specs.Quantifier.{denominator}
 use Rattle.formula.proofs.SomeLaws.{or-false, none-implied}
 use Rattle.formula.proofs.OrderLaws.{ordered-no-repeats}
-use Rattle.rule_file.specs.Limits.{max-variables, max-clauses, max-whole}
+use Rattle.rule_file.specs.Limits.{max-clauses, max-whole}
 use Rattle.rule_file.specs.Walk.{first}
 use Rattle.rule_file.specs.Words.{word-count, stated-count}
 use Rattle.rule_file.specs.RuleFile.{clause-count, variable-count, prefix-start, clauses, clauses-from, prefix, prefix-from, whole}
@@ -26,9 +26,9 @@ pub check-2 : (b : List ℕ) → Decides (wrong-count b) (stated-count b ≡ wor
 unfolding wrong-count
 check-2 b = differs _ _
 
-pub check-3 : (b : List ℕ) → Decides (too-many b) ((variable-count b ≤ max-variables) × (clause-count b ≤ max-clauses))
+pub check-3 : (most : ℕ) (b : List ℕ) → Decides (too-many most b) ((variable-count b ≤ most) × (clause-count b ≤ max-clauses))
 unfolding too-many
-check-3 b =
+check-3 most b =
     (λ e. let (e₁, e₂) = or-false _ _ e in (ltb-false _ _ e₁, ltb-false _ _ e₂), λ h. simp (le-ltb _ _ (h .0), le-ltb _ _ (h .1)))
 
 pub check-4 : (b : List ℕ) → Decides (wrong-prefix b) (prefix-start b + 2 * variable-count b ≡ word-count b - 4)

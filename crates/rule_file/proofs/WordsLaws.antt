@@ -39,9 +39,9 @@ pub differs : (x y : ℕ) → Decides (not (eqb x y)) (x ≡ y)
 differs x y = (λ e. eqb-true x y (not-false _ e), λ e. ap not (eq-eqb x y e))
 
 -- check 1
-pub right-length : (least : ℕ) (b : List ℕ) → Decides (wrong-length least b) (Length least b)
+pub right-length : (least most : ℕ) (b : List ℕ) → Decides (wrong-length least most b) (Length least most b)
 unfolding wrong-length
-right-length least b = (
+right-length least most b = (
   λ e.
       let (e₁₂, e₃) = or-false _ _ e in
       let (e₁, e₂) = or-false _ _ e₁₂ in

@@ -1,5 +1,5 @@
--- What the reader's checks leave true of a file: what the layers above are given. That it is exactly the reader's
--- acceptance is proved. Assumes nothing.
+-- What a reader's checks leave true of a file: what the layers above are given, of the bench's reader. That it is
+-- exactly the reader's acceptance is proved. Assumes nothing.
 use mathlib.Core.Path.{_≡_}
 use mathlib.Core.Bool.{false}
 use mathlib.Core.List.{List}
@@ -7,23 +7,24 @@ use mathlib.Core.Option.{none}
 use Prim.Native.Nat.{ℕ, _+_, _-_, _*_, _%_, _≤_}
 use lib.ListN.{length}
 use Rattle.formula.specs.Formula.{some-of, out-of-range, unordered}
-use Rattle.rule_file.specs.Limits.{max-bytes, rule-trailer, max-variables, max-clauses, max-whole}
+use Rattle.rule_file.specs.Limits.{rule-trailer, max-clauses, max-whole, bench-limits}
 use Rattle.rule_file.specs.Words.{word-count, stated-count}
 use Rattle.rule_file.specs.RuleFile.{clause-count, variable-count, prefix-start, clauses, prefix, whole}
 use Rattle.rule_file.specs.Reader.{walk-clauses, malformed}
+use Rattle.rule_file.specs.declared.limits.Limits.{Limits}
 use Rattle.rule_file.specs.declared.Header.{Header}
 
 -- a length that is not wrong-length
-pub record Length (least : ℕ) (b : List ℕ) : Type 0 where
+pub record Length (least most : ℕ) (b : List ℕ) : Type 0 where
   pub whole-words : length b % 4 ≡ 0
   pub at-least : least ≤ length b
-  pub at-most : length b ≤ max-bytes
+  pub at-most : length b ≤ most
 
 -- 7 leaves nothing besides: where variables rise, none stands twice
-pub record Accepted (b : List ℕ) : Type 0 where
-  pub right-length : Length rule-trailer b
+pub record AcceptedWithin (limits : Limits) (b : List ℕ) : Type 0 where
+  pub right-length : Length rule-trailer (limits .bytes) b
   pub right-count : stated-count b ≡ word-count b
-  pub few-variables : variable-count b ≤ max-variables
+  pub few-variables : variable-count b ≤ limits .variables
   pub few-clauses : clause-count b ≤ max-clauses
   pub prefix-ends : prefix-start b + 2 * variable-count b ≡ word-count b - 4
   pub walked : walk-clauses b (variable-count b) (prefix-start b) (clause-count b) 0 ≡ none
@@ -31,6 +32,10 @@ pub record Accepted (b : List ℕ) : Type 0 where
   pub ordered : some-of unordered (clauses b) ≡ false
   pub well-formed : some-of malformed (prefix b) ≡ false
   pub bounded : whole b ≤ max-whole
+
+-- by the bench's reader
+abbrev pub Accepted : List ℕ → Type 0
+Accepted = AcceptedWithin bench-limits
 
 -- n, m, the prefix's start and the whole
 abbrev pub header : List ℕ → Header

@@ -1,6 +1,6 @@
 -- Rule files: limits, the words of a file, elements that stand one after another in it, what stands in a rule file, the
--- code's quantifiers, what an operation answers, the reader's answer, what an accepted file holds, and its clauses as
--- masks.
+-- code's quantifiers, what an operation answers, the readers' answers, what an accepted file holds, what is claimed of
+-- two readers, and the clauses as masks.
 pub mod Limits
 pub mod Walk
 pub mod Words
@@ -10,4 +10,5 @@ pub mod Answer
 pub mod Reader
 pub mod Checks
 pub mod Accepted
+pub mod TwoReaders
 pub mod Masks

@@ -1,9 +1,14 @@
--- The limits of files, each named once. Assumes nothing.
+-- The limits of files, each named once, and those in which the two readers of rule files differ. Assumes nothing.
 use Prim.Native.Nat.{ℕ, _^_}
+use Rattle.rule_file.specs.declared.limits.Limits.{Limits}
 
 -- the longest file, a rule file or a derivation
 abbrev pub max-bytes : ℕ
 max-bytes = 65536
+
+-- the longest rule file for the small reader
+abbrev pub small-bytes : ℕ
+small-bytes = 4096
 
 -- the trailers, and so the shortest files: four words and three
 abbrev pub rule-trailer : ℕ
@@ -14,6 +19,9 @@ derivation-trailer = 12
 
 abbrev pub max-variables : ℕ
 max-variables = 32
+
+abbrev pub small-variables : ℕ
+small-variables = 16
 
 abbrev pub max-clauses : ℕ
 max-clauses = 1024
@@ -27,3 +35,10 @@ max-weight = 65535
 -- the largest product of all totals
 abbrev pub max-whole : ℕ
 max-whole = 2 ^ 60
+
+-- the bench's reader, and the rack controller's small one
+abbrev pub bench-limits : Limits
+bench-limits = record { bytes = max-bytes; variables = max-variables }
+
+abbrev pub small-limits : Limits
+small-limits = record { bytes = small-bytes; variables = small-variables }

@@ -1,6 +1,7 @@
 -- The reader's answer for every file: document 01's checks 1 to 9 and document 02's 23, in the order 1 to 7, 23, 8, 9,
 -- each over the whole file before the next. 5, 6, 7 and 23 name the first clause at fault, and 8 the first variable.
--- Assumes nothing.
+-- One chain of checks for any limits on bytes and variables, and two readers: the bench's and the small one. Assumes
+-- nothing.
 use Prim.Native.Nat.{ℕ, _+_, _-_, _*_}
 use mathlib.Core.Bool.{Bool, false, not, _&&_, _||_}
 use mathlib.Core.List.{List}
@@ -8,11 +9,12 @@ use mathlib.Core.Option.{Option}
 use lib.Dec.{leb, ltb, eqb}
 use Rattle.formula.specs.Formula.{out-of-range, repeats, unordered}
 use Rattle.formula.specs.Quantifier.{Quantifier, existential, randomized}
-use Rattle.rule_file.specs.Limits.{rule-trailer, max-variables, max-clauses, max-weight, max-whole}
+use Rattle.rule_file.specs.Limits.{rule-trailer, max-clauses, max-weight, max-whole, bench-limits, small-limits}
 use Rattle.rule_file.specs.Walk.{first, walk}
 use Rattle.rule_file.specs.Words.{word, word-count, wrong-length, stated-count}
 use Rattle.rule_file.specs.RuleFile.{clause-count, variable-count, prefix-start, after-clause, clauses, prefix, whole}
 use Rattle.rule_file.specs.Answer.{Answer, refused, answer, refuse-if, refuse-at}
+use Rattle.rule_file.specs.declared.limits.Limits.{Limits}
 use Rattle.rule_file.specs.declared.Header.{Header}
 use Rattle.rule_file.specs.declared.Reading.{Reading}
 use Rattle.rule_file.specs.declared.Reading.the-variants.{Refused, Accepted}
@@ -21,9 +23,9 @@ use Rattle.rule_file.specs.declared.Reading.the-variants.{Refused, Accep
 unfoldable pub wrong-count : List ℕ → Bool
 wrong-count b = not (eqb (stated-count b) (word-count b))
 
--- 3: more than 32 variables or 1,024 clauses
-unfoldable pub too-many : List ℕ → Bool
-too-many b = ltb max-variables (variable-count b) || ltb max-clauses (clause-count b)
+-- 3: more variables than the most, or more than 1,024 clauses
+unfoldable pub too-many : ℕ → List ℕ → Bool
+too-many most b = ltb most (variable-count b) || ltb max-clauses (clause-count b)
 
 -- 4: the prefix does not end where the trailer begins
 unfoldable pub wrong-prefix : List ℕ → Bool
@@ -64,12 +66,21 @@ read-from-6 b =
 unfoldable pub read-from-5 : List ℕ → Answer Header
 read-from-5 b = refuse-at (walk-clauses b (variable-count b) (prefix-start b) (clause-count b) 0) 5 (read-from-6 b)
 
-unfoldable pub read-from-3 : List ℕ → Answer Header
-read-from-3 b = refuse-if (too-many b) 3 (refuse-if (wrong-prefix b) 4 (read-from-5 b))
+unfoldable pub read-from-3 : ℕ → List ℕ → Answer Header
+read-from-3 most b = refuse-if (too-many most b) 3 (refuse-if (wrong-prefix b) 4 (read-from-5 b))
 
--- the reader's answer: n, m, the prefix's start and the whole, or a refusal
+-- the answer within limits: n, m, the prefix's start and the whole, or a refusal
+unfoldable pub read-within : Limits → List ℕ → Answer Header
+read-within limits b =
+    refuse-if (wrong-length rule-trailer (limits .bytes) b) 1 (refuse-if (wrong-count b) 2 (read-from-3 (limits .variables) b))
+
+-- the bench's reader, on which every other operation stands
 unfoldable pub read-file : List ℕ → Answer Header
-read-file b = refuse-if (wrong-length rule-trailer b) 1 (refuse-if (wrong-count b) 2 (read-from-3 b))
+read-file = read-within bench-limits
+
+-- the small reader
+unfoldable pub read-small : List ℕ → Answer Header
+read-small = read-within small-limits
 
 -- the documents' refusal or values for each case of what the code answers
 abbrev pub reading : Reading → Answer Header

@@ -4,7 +4,6 @@ use mathlib.Core.List.{List, []}
 use Prim.Native.Nat.{ℕ, _+_, _-_, _*_, _/_, _%_}
 use lib.Dec.{leb, ltb, eqb}
 use lib.ListN.{length, getD, take, drop}
-use Rattle.rule_file.specs.Limits.{max-bytes}
 use Rattle.rule_file.specs.Walk.{elements}
 
 -- the word at index i
@@ -35,6 +34,6 @@ all-words c = words c 0 (word-count c)
 unfoldable pub part : List ℕ → ℕ → ℕ → List ℕ
 part b i k = cond (leb (i + k) (word-count b)) (take (4 * k) (drop (4 * i) b)) []
 
--- the byte length is not a multiple of 4, under the least or over 65,536
-unfoldable pub wrong-length : ℕ → List ℕ → Bool
-wrong-length least b = not (eqb (length b % 4) 0) || ltb (length b) least || ltb max-bytes (length b)
+-- the byte length is not a multiple of 4, under the least or over the most
+unfoldable pub wrong-length : ℕ → ℕ → List ℕ → Bool
+wrong-length least most b = not (eqb (length b % 4) 0) || ltb (length b) least || ltb most (length b)

@@ -3,12 +3,17 @@
 // The longest file, a rule file or a derivation.
 pub const MAX_BYTES: usize = 65536;
 
+// The longest rule file for the small reader.
+pub const SMALL_BYTES: usize = 4096;
+
 // The bytes of the trailers, and so of the shortest files.
 pub const RULE_TRAILER: usize = 16;
 
 pub const DERIVATION_TRAILER: usize = 12;
 
 pub const MAX_VARIABLES: usize = 32;
+
+pub const SMALL_VARIABLES: usize = 16;
 
 pub const MAX_CLAUSES: usize = 1024;
 
@@ -18,3 +23,9 @@ pub const MAX_WEIGHT: u64 = 65535;
 
 // 2^60, the largest product of all totals.
 pub const MAX_WHOLE: u64 = 1152921504606846976;
+
+// What the two readers of rule files differ in.
+pub struct Limits {
+    pub bytes: usize,
+    pub variables: usize,
+}

@@ -1,5 +1,4 @@
 // The words of a file of bytes, and its parts.
-use crate::limits::MAX_BYTES;
 ghost use mathlib.Core.Path.{_≡_};
 ghost use Prim.Native.Nat.{_+_, _^_, _≤_, _<_};
 ghost use Rattle.formula.specs.Formula.{some-of};
@@ -44,9 +43,9 @@ pub fn part(file: &[u8], i: usize, k: usize) -> &[u8]
     &file[from..to]
 }
 
-// Whether the length is not a multiple of 4, under the least or over the longest file's.
-pub fn has_wrong_length(file: &[u8], least: usize) -> bool
-    ensures { λ r. ⌜ r ≡ wrong-length least (now (file .entry)) ⌝ }
+// Whether the length is not a multiple of 4, under the least or over the most.
+pub fn has_wrong_length(file: &[u8], least: usize, most: usize) -> bool
+    ensures { λ r. ⌜ r ≡ wrong-length least most (now (file .entry)) ⌝ }
     ensures unchanged { λ _. ⌜ now (file .exit) ≡ now (file .entry) ⌝ }
 {
     let length = file.len();
@@ -56,7 +55,7 @@ pub fn has_wrong_length(file: &[u8], least: usize) -> bool
     if length < least {
         return true;
     }
-    MAX_BYTES < length
+    most < length
 }
 
 // Whether some word w of the k from index i on has lo ≤ w < hi.

@@ -1,13 +1,13 @@
 // Runs the stored samples. Standard input is a row of records: the operation (1 read, 2 figure, 3 verdict, 4 cut, 5
-// check, 6 clause reader, 7 derive, 8 job list, 9 tally), a 32-bit word; the two limits of the verdict and of the
-// tally, or the cut's level or the length of the writer's buffer and 0, two words each; the lengths of the rule file
-// and of the derivation, a word each; then the two files. A job list stands in the rule file's place, and a tally's
-// five counts, a word each, in the derivation's. Each record is answered by a line: the refusal's number, with the
-// clause, variable or line at fault where one is given, or 0 and the values. The clause reader's values are the length
-// and the literals of each clause, and `none` where no clause is left. The writer's line ends in `right` if the
-// record's derivation, or nothing, is what it wrote. The values of a job list are the number of its lines, and of each
-// line the length of the name and the limits, or `other`. A tally's line is the verdict's number alone, and the counts
-// after it.
+// check, 6 clause reader, 7 derive, 8 job list, 9 tally, 10 read by the small reader), a 32-bit word; the two limits of
+// the verdict and of the tally, or the cut's level or the length of the writer's buffer and 0, two words each; the
+// lengths of the rule file and of the derivation, a word each; then the two files. A job list stands in the rule file's
+// place, and a tally's five counts, a word each, in the derivation's. Each record is answered by a line: the refusal's
+// number, with the clause, variable or line at fault where one is given, or 0 and the values. The clause reader's
+// values are the length and the literals of each clause, and `none` where no clause is left. The writer's line ends in
+// `right` if the record's derivation, or nothing, is what it wrote. The values of a job list are the number of its
+// lines, and of each line the length of the name and the limits, or `other`. A tally's line is the verdict's number
+// alone, and the counts after it.
 use bounds::Cutting;
 use bounds::cut;
 use clause_reader::cursor::Cursor;
@@ -27,6 +27,7 @@ use rule_file::Reading;
 use rule_file::Refusal;
 use rule_file::limits::MAX_BYTES;
 use rule_file::read;
+use rule_file::read_small;
 use rule_file::words::part;
 use rule_file::words::word;
 use std::num::wrapping_add_usize;
@@ -73,8 +74,8 @@ fn put_refusal(refusal: Refusal) {
     }
 }
 
-fn put_reading(rule: &[u8]) {
-    match read(rule) {
+fn put_reading(reading: Reading) {
+    match reading {
         Reading::Refused(refusal) => put_refusal(refusal),
         Reading::Accepted(header) => {
             put_number(0);
@@ -285,7 +286,7 @@ fn put_tally<'a>(rule: &'a [u8], lo: u64, hi: u64, counts: &'a [u8]) {
 
 fn put_answer<'a>(operation: usize, a: u64, b: u64, rule: &'a [u8], derivation: &'a [u8]) {
     match operation {
-        1 => put_reading(rule),
+        1 => put_reading(read(rule)),
         2 => put_figure(rule),
         3 => put_verdict(rule, a, b),
         4 => put_cut(rule, a),
@@ -294,6 +295,7 @@ fn put_answer<'a>(operation: usize, a: u64, b: u64, rule: &'a [u8], derivation: 
         7 => put_deriving(rule, a as usize, derivation),
         8 => put_list(rule),
         9 => put_tally(rule, a, b, derivation),
+        10 => put_reading(read_small(rule)),
         _ => put(b"no operation"),
     }
     put(b"\n");

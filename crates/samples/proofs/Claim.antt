@@ -8,7 +8,7 @@ use Rattle.buffer.specs.Bytes.{word-bytes, bytes-of}
 use Rattle.rule_file.specs.Walk.{elements, first, walk}
 use Rattle.rule_file.specs.Words.{word, wrong-length}
 use Rattle.rule_file.specs.RuleFile.{quantifier}
-use Rattle.rule_file.specs.Reader.{wrong-count, too-many, wrong-prefix, clause-fits, malformed, too-large, read-from-8, read-from-6, read-from-5, read-from-3, read-file}
+use Rattle.rule_file.specs.Reader.{wrong-count, too-many, wrong-prefix, clause-fits, malformed, too-large, read-from-8, read-from-6, read-from-5, read-from-3, read-within, read-file, read-small}
 use Rattle.value.specs.Value.{figure-file, verdict, verdict-file}
 use Rattle.bounds.specs.Cut.{cut-file}
 use Rattle.resolution.specs.Resolution.{level, without, is-resolvent, lookup, require, judge-resolvent, judge, first-refusal, judge-from, empty-value}
@@ -24,7 +24,7 @@ unfolding literal-status clause-status formula-status some-of all-of out-of-rang
     unset-literals is-unit clash node-status
     denominator value evaluate
     bytes-of word-bytes elements first walk word wrong-length quantifier
-    wrong-count too-many wrong-prefix clause-fits malformed too-large read-from-8 read-from-6 read-from-5 read-from-3 read-file
+    wrong-count too-many wrong-prefix clause-fits malformed too-large read-from-8 read-from-6 read-from-5 read-from-3 read-within read-file read-small
     figure-file verdict verdict-file cut-file
     level without is-resolvent lookup require judge-resolvent judge first-refusal judge-from empty-value
     value-at line-of after-line wrong-counts line-fits check-from-21 check-from-17 check-from-15 check-from-13 check-file

@@ -9,7 +9,7 @@ use Rattle.buffer.specs.Text.{ascii, decimal-by, decimal, after-blanks, line}
 use Rattle.rule_file.specs.Walk.{elements, first, walk}
 use Rattle.rule_file.specs.Words.{word, wrong-length}
 use Rattle.rule_file.specs.RuleFile.{quantifier}
-use Rattle.rule_file.specs.Reader.{wrong-count, too-many, wrong-prefix, clause-fits, malformed, too-large, read-from-8, read-from-6, read-from-5, read-from-3, read-file}
+use Rattle.rule_file.specs.Reader.{wrong-count, too-many, wrong-prefix, clause-fits, malformed, too-large, read-from-8, read-from-6, read-from-5, read-from-3, read-within, read-file}
 use Rattle.report.specs.Report.{refusal-line, cut-line, cut-lines, head-text, accepted-text, report-text}
 use Rattle.samples.specs.Samples.{example, variable-twice, not-rising}
 
@@ -17,19 +17,19 @@ pub example-text :
     report-text (bytes-of example)
     ≡ ascii "vars 3\nclauses 3\nwhole 50\nvalue 12\ncut 0 0 50 50\ncut 1 0 40 40\ncut 2 0 40 40\ncut 3 12 12 0\n"
 unfolding report-text accepted-text head-text cut-lines cut-line line after-blanks decimal decimal-by ascii bytes-of word-bytes
-    read-file read-from-3 read-from-5 read-from-6 read-from-8 wrong-length wrong-count too-many wrong-prefix walk clause-fits first malformed too-large
+    read-file read-within read-from-3 read-from-5 read-from-6 read-from-8 wrong-length wrong-count too-many wrong-prefix walk clause-fits first malformed too-large
     elements word quantifier out-of-range repeats unordered some-of
     denominator value evaluate literal-status clause-status formula-status all-of unset-literals is-unit clash node-status
 example-text = refl
 
 pub refusal-text : report-text (bytes-of variable-twice) ≡ ascii "refused 7 1\n"
 unfolding report-text refusal-line line after-blanks decimal decimal-by ascii bytes-of word-bytes
-    read-file read-from-3 read-from-5 read-from-6 wrong-length wrong-count too-many wrong-prefix walk clause-fits first
+    read-file read-within read-from-3 read-from-5 read-from-6 wrong-length wrong-count too-many wrong-prefix walk clause-fits first
     elements word out-of-range repeats some-of
 refusal-text = refl
 
 pub order-text : report-text (bytes-of not-rising) ≡ ascii "refused 23 1\n"
 unfolding report-text refusal-line line after-blanks decimal decimal-by ascii bytes-of word-bytes
-    read-file read-from-3 read-from-5 read-from-6 wrong-length wrong-count too-many wrong-prefix walk clause-fits first
+    read-file read-within read-from-3 read-from-5 read-from-6 wrong-length wrong-count too-many wrong-prefix walk clause-fits first
     elements word out-of-range repeats unordered some-of
 order-text = refl

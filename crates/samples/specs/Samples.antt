@@ -1,10 +1,13 @@
 -- Document 01's samples P1 to P12, the places that document 02 (i) adds to refusals, the derivations that (ii) writes,
--- the order that (iv) asks for and the nodes that (v) calls lost, in one list: each a question to an operation, and the
--- answer that it must give. Assumes nothing.
-use mathlib.Core.List.{List, [], _∷_}
-use Prim.Native.Nat.{ℕ}
+-- the order that (iv) asks for, the nodes that (v) calls lost and the limits of (vii), in one list: each a question to
+-- an operation, and the answer that it must give. Assumes nothing.
+use mathlib.Core.List.{List, [], _∷_, _++_}
+use Prim.Native.Nat.{ℕ, _+_, _*_}
+use lib.ListN.{replicate}
 use Rattle.buffer.specs.Bytes.{bytes-of}
 use Rattle.rule_file.specs.Answer.{Answer, refused, answer}
+use Rattle.rule_file.specs.Reader.{read-file, read-small}
+use Rattle.rule_file.specs.declared.Header.{Header}
 use Rattle.rule_file.specs.declared.Refusal.the-variants.{Alone, At}
 use Rattle.value.specs.declared.Ratio.{Ratio}
 use Rattle.value.specs.Value.{figure-file, Verdict, above, below, within, verdict-file}
@@ -15,6 +18,8 @@ use Rattle.derivation.specs.Check.{check-file}
 use Rattle.writing.specs.Derive.{derive-file}
 
 pub data Question : Type 0 where
+  read : List ℕ → Question
+  read-by-small : List ℕ → Question
   figure : List ℕ → Question
   verdict : List ℕ → ℕ → ℕ → Question
   cut : List ℕ → ℕ → Question
@@ -22,6 +27,7 @@ pub data Question : Type 0 where
   derive : List ℕ → ℕ → Question
 
 pub data Outcome : Type 0 where
+  stated : Answer Header → Outcome
   figured : Answer Ratio → Outcome
   judged : Answer Verdict → Outcome
   bounded : Answer Bounds → Outcome
@@ -30,11 +36,25 @@ pub data Outcome : Type 0 where
 
 -- what the operation answers, by the definition that its contract cites
 unfoldable pub ask : Question → Outcome
+ask (read ws) = stated (read-file (bytes-of ws))
+ask (read-by-small ws) = stated (read-small (bytes-of ws))
 ask (figure ws) = figured (figure-file (bytes-of ws))
 ask (verdict ws lo hi) = judged (verdict-file (bytes-of ws) lo hi)
 ask (cut ws level) = bounded (cut-file (bytes-of ws) level)
 ask (check ws ds) = checked (check-file (bytes-of ws) (bytes-of ds))
 ask (derive ws capacity) = written (derive-file (bytes-of ws) capacity)
+
+-- n existential variables, and no clause
+abbrev existentials : ℕ → List ℕ
+existentials n = replicate (2 * n) 0 ++ (0 ∷ n ∷ 0 ∷ (2 * n + 4) ∷ [])
+
+-- what a reader answers of them
+abbrev read-as : ℕ → Outcome
+read-as n = stated (answer (record { variables = n; clauses = 0; prefix = 0; whole = 1 }))
+
+-- a file with so many words of 0
+abbrev noughts : ℕ → List ℕ
+noughts k = replicate k 0
 
 -- a figure out of a whole
 abbrev out-of : ℕ → ℕ → Outcome
@@ -136,4 +156,14 @@ samples =
     sample (cut (2 ∷ 0 ∷ 2 ∷ 1 ∷ 1 ∷ 0 ∷ 0 ∷ 0 ∷ 0 ∷ 2 ∷ 2 ∷ 5 ∷ 13 ∷ []) 0) (between 0 1 1) ∷
     sample (cut (2 ∷ 0 ∷ 2 ∷ 1 ∷ 2 ∷ 1 ∷ 1 ∷ 0 ∷ 0 ∷ 2 ∷ 2 ∷ 5 ∷ 13 ∷ []) 1) (between 0 2 2) ∷
     sample (cut (2 ∷ 0 ∷ 2 ∷ 2 ∷ 1 ∷ 3 ∷ 1 ∷ 1 ∷ 0 ∷ 0 ∷ 2 ∷ 2 ∷ 6 ∷ 14 ∷ []) 1) (between 0 2 2) ∷
+    -- the small reader: 16 and 17 variables, and 33, which the bench's refuses too
+    sample (read-by-small (existentials 16)) (read-as 16) ∷
+    sample (read-by-small (existentials 17)) (stated (refused (Alone 3))) ∷
+    sample (read (existentials 17)) (read-as 17) ∷
+    sample (read (existentials 32)) (read-as 32) ∷
+    sample (read (existentials 33)) (stated (refused (Alone 3))) ∷
+    -- 4,096 bytes and 4,100, without a word count: 2 where the length is right
+    sample (read-by-small (noughts 1024)) (stated (refused (Alone 2))) ∷
+    sample (read-by-small (noughts 1025)) (stated (refused (Alone 1))) ∷
+    sample (read (noughts 1025)) (stated (refused (Alone 2))) ∷
     []

@@ -7,6 +7,7 @@ use derivation::check;
 use rule_file::Reading;
 use rule_file::Refusal;
 use rule_file::read;
+use rule_file::read_small;
 use tally::Kind;
 use tally::Tally;
 use tally::absorb;
@@ -22,7 +23,7 @@ ghost use lib.ListN.{length};
 ghost use lib.Seq.{sets};
 ghost use mathlib.Core.List.{[], _∷_};
 ghost use Rattle.rule_file.specs.Answer.{number-of, place-of};
-ghost use Rattle.rule_file.specs.Reader.{read-file};
+ghost use Rattle.rule_file.specs.Reader.{reading, read-file, read-small};
 ghost use Rattle.value.specs.Value.{judging, figure-file, verdict-file};
 ghost use Rattle.bounds.specs.Cut.{cut-file};
 ghost use Rattle.derivation.specs.Check.{check-file};
@@ -56,14 +57,12 @@ fn refuse(out: &mut [u64; 4], refusal: Refusal) -> u32
     }
 }
 
-// n, m, prefix start, whole.
-#[no_mangle]
-pub extern "C" fn ssat_read(rule: &[u8], out: &mut [u64; 4]) -> u32
-    ensures returned { λ r. ⌜ r ≡ code (read-file (now (rule .entry))) ⌝ }
-    ensures stored { λ _. ⌜ now (out .exit) ≡ filled header-values (read-file (now (rule .entry))) (now (out .entry)) ⌝ }
-    ensures unchanged { λ _. ⌜ now (rule .exit) ≡ now (rule .entry) ⌝ }
+// n, m, prefix start, whole, of either reader.
+fn hand_over(out: &mut [u64; 4], result: Reading) -> u32
+    ensures { λ r. ⌜ r ≡ code (reading result) ⌝ }
+    ensures { λ _. ⌜ now (out .exit) ≡ filled header-values (reading result) (now (out .entry)) ⌝ }
 {
-    match read(rule) {
+    match result {
         Reading::Refused(refusal) => refuse(out, refusal),
         Reading::Accepted(h) => fill(
             out,
@@ -73,6 +72,25 @@ pub extern "C" fn ssat_read(rule: &[u8], out: &mut [u64; 4]) -> u32
             h.whole,
         ),
     }
+}
+
+#[no_mangle]
+pub extern "C" fn ssat_read(rule: &[u8], out: &mut [u64; 4]) -> u32
+    ensures returned { λ r. ⌜ r ≡ code (read-file (now (rule .entry))) ⌝ }
+    ensures stored { λ _. ⌜ now (out .exit) ≡ filled header-values (read-file (now (rule .entry))) (now (out .entry)) ⌝ }
+    ensures unchanged { λ _. ⌜ now (rule .exit) ≡ now (rule .entry) ⌝ }
+{
+    hand_over(out, read(rule))
+}
+
+// The same by the small reader.
+#[no_mangle]
+pub extern "C" fn ssat_read_small(rule: &[u8], out: &mut [u64; 4]) -> u32
+    ensures returned { λ r. ⌜ r ≡ code (read-small (now (rule .entry))) ⌝ }
+    ensures stored { λ _. ⌜ now (out .exit) ≡ filled header-values (read-small (now (rule .entry))) (now (out .entry)) ⌝ }
+    ensures unchanged { λ _. ⌜ now (rule .exit) ≡ now (rule .entry) ⌝ }
+{
+    hand_over(out, read_small(rule))
 }
 
 // Figure, whole.

@@ -1,4 +1,4 @@
-//! The seven operations, as the C interface answers them, and the clause reader and the reader of job lists, which it
+//! The eight operations, as the C interface answers them, and the clause reader and the reader of job lists, which it
 //! has not.
 
 use crate::derivation;
@@ -9,7 +9,7 @@ use crate::tables::Tables;
 use crate::writer;
 
 /// With at most this many variables the answers come from full enumeration.
-pub const SMALL: usize = 7;
+pub const MOST_ENUMERATED: usize = 7;
 
 /// A return value, and the numbers that go to `out` from index 0: the answer's for 0, the place of a
 /// refusal that has one, else none.
@@ -54,7 +54,7 @@ pub struct Solver<'a> {
 impl<'a> Solver<'a> {
     pub fn new(rules: &'a Result<Rules, Fault>) -> Solver<'a> {
         let tables = match rules {
-            Ok(rules) if rules.n() > SMALL => Some(Tables::new(rules)),
+            Ok(rules) if rules.n() > MOST_ENUMERATED => Some(Tables::new(rules)),
             _ => None,
         };
         Solver { rules, tables }
@@ -87,10 +87,7 @@ impl<'a> Solver<'a> {
     }
 
     pub fn read(&self) -> Answer {
-        self.with(|rules| {
-            let counts = [rules.n(), rules.clauses.len(), rules.prefix_start].map(|count| count as u128);
-            Answer::numbers(&[counts[0], counts[1], counts[2], rules.whole()])
-        })
+        reading(self.rules)
     }
 
     pub fn figure(&self) -> Answer {
@@ -151,6 +148,22 @@ impl<'a> Solver<'a> {
             None => Answer::refused((22, None)),
         })
     }
+}
+
+/// What a reader gives.
+pub fn reading(rules: &Result<Rules, Fault>) -> Answer {
+    match rules {
+        Ok(rules) => {
+            let counts = [rules.n(), rules.clauses.len(), rules.prefix_start].map(|count| count as u128);
+            Answer::numbers(&[counts[0], counts[1], counts[2], rules.whole()])
+        }
+        Err(fault) => Answer::refused(*fault),
+    }
+}
+
+/// What the small reader gives. The other operations are the bench's.
+pub fn read_small(rule: &[u8]) -> Answer {
+    reading(&rules::read_small(rule))
 }
 
 /// Reads a rule file and answers one operation; for tests and samples.

@@ -1,7 +1,7 @@
 //! Run samples: a rule file, an operation and the answer that it must give. The program `run_samples` takes them as
 //! records and answers each by a line; `samples` says the form of both.
 
-use crate::answer::{answer, clauses, jobs, Answer, Solver};
+use crate::answer::{answer, clauses, jobs, read_small, Answer, Solver};
 use crate::list::Tally;
 use crate::to_bytes;
 
@@ -20,6 +20,7 @@ pub enum Operation {
     Jobs,
     /// The verdict with these limits, taken into a tally of these counts.
     Tally(u64, u64, [u32; 5]),
+    ReadSmall,
 }
 
 #[derive(Clone, Debug, PartialEq, Eq)]
@@ -43,6 +44,7 @@ impl Case {
             Operation::Clauses => clauses(&self.rule),
             Operation::Jobs => jobs(&self.rule),
             Operation::Tally(lo, hi, counts) => solver.tally(*lo, *hi, Tally(counts.map(u64::from))),
+            Operation::ReadSmall => read_small(&self.rule),
         })
     }
 
@@ -58,6 +60,7 @@ impl Case {
             Operation::Derive(capacity) => (7, *capacity as u64, 0, self.expected.written.clone()),
             Operation::Jobs => (8, 0, 0, Vec::new()),
             Operation::Tally(lo, hi, counts) => (9, *lo, *hi, to_bytes(counts)),
+            Operation::ReadSmall => (10, 0, 0, Vec::new()),
         };
         let mut record = to_bytes(&[operation]);
         record.extend([a, b].iter().flat_map(|number| number.to_le_bytes()));

@@ -1,10 +1,11 @@
 //! The proved solver through its C interface, with buffers that end or begin at a guard page.
 
-use crate::guard::Guarded;
+use crate::guard::{call_on_stack, Guarded};
 
 mod raw {
     extern "C" {
         pub fn ssat_read(rule: *const u8, len: usize, out: *mut u64) -> u32;
+        pub fn ssat_read_small(rule: *const u8, len: usize, out: *mut u64) -> u32;
         pub fn ssat_figure(rule: *const u8, len: usize, out: *mut u64) -> u32;
         pub fn ssat_verdict(rule: *const u8, len: usize, lo: u64, hi: u64, out: *mut u64) -> u32;
         pub fn ssat_cut(rule: *const u8, len: usize, level: u64, out: *mut u64) -> u32;
@@ -164,6 +165,10 @@ impl Library {
         self.call(|rule, len, _, _, out| unsafe { raw::ssat_read(rule, len, out) })
     }
 
+    pub fn read_small(&mut self) -> Returned {
+        self.call(|rule, len, _, _, out| unsafe { raw::ssat_read_small(rule, len, out) })
+    }
+
     pub fn figure(&mut self) -> Returned {
         self.call(|rule, len, _, _, out| unsafe { raw::ssat_figure(rule, len, out) })
     }
@@ -194,9 +199,26 @@ impl Library {
     }
 }
 
+/// What the small reader returns, and the bytes of stack that the call uses.
+pub fn read_small_on_stack(rule: &[u8]) -> (Returned, usize) {
+    let mut out = BEFORE;
+    let (code, used) = unsafe { call_on_stack(raw::ssat_read_small, rule, &mut out) };
+    ((code, out), used)
+}
+
 /// Plain calls on slices, for the benchmark.
 pub mod plain {
     use super::{raw, Returned};
+
+    pub fn read(rule: &[u8]) -> Returned {
+        let mut out = [0; 4];
+        (unsafe { raw::ssat_read(rule.as_ptr(), rule.len(), out.as_mut_ptr()) }, out)
+    }
+
+    pub fn read_small(rule: &[u8]) -> Returned {
+        let mut out = [0; 4];
+        (unsafe { raw::ssat_read_small(rule.as_ptr(), rule.len(), out.as_mut_ptr()) }, out)
+    }
 
     pub fn figure(rule: &[u8]) -> Returned {
         let mut out = [0; 4];

@@ -1,6 +1,7 @@
-//! Memory between two pages that may not be touched, and a thread on a stack of known content.
+//! Memory between two pages that may not be touched, and a thread or a call on a stack of known content.
 //! For Linux on x86-64.
 
+use std::arch::asm;
 use std::ffi::c_void;
 
 extern "C" {
@@ -106,4 +107,42 @@ pub fn on_stack(len: usize, run: &mut (dyn FnMut() + Send)) -> usize {
     }
     let untouched = stack.all().iter().take_while(|byte| **byte == FILL).count();
     (task.first - low as usize).saturating_sub(untouched)
+}
+
+/// A function of the C interface on a lent file and `out`.
+pub type Function = unsafe extern "C" fn(*const u8, usize, *mut u64) -> u32;
+
+/// Calls `function` on a stack with nothing else on it, guarded at both ends: its return value, and the bytes of stack
+/// from its return address to the last that it wrote to.
+///
+/// # Safety
+///
+/// The function may be called with these arguments, and answers each call alike.
+pub unsafe fn call_on_stack(function: Function, file: &[u8], out: &mut [u64; 4]) -> (u32, usize) {
+    let mut stack = Guarded::new(16 * PAGE);
+    let (mut code, mut used) = (0, 0);
+    // A byte that is written to may hold what it held before, but not both times.
+    for fill in [0xa5, 0x5a] {
+        let bytes = stack.all();
+        bytes.fill(fill);
+        let top = bytes.as_mut_ptr_range().end;
+        asm!(
+            "mov r12, rsp",
+            "mov rsp, r13",
+            "call r14",
+            "mov rsp, r12",
+            out("r12") _,
+            in("r13") top,
+            in("r14") function,
+            in("rdi") file.as_ptr(),
+            in("rsi") file.len(),
+            in("rdx") out.as_mut_ptr(),
+            lateout("eax") code,
+            clobber_abi("C"),
+        );
+        let bytes = stack.all();
+        let untouched = bytes.iter().take_while(|byte| **byte == fill).count();
+        used = used.max(bytes.len() - untouched);
+    }
+    (code, used)
 }

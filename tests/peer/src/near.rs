@@ -1,7 +1,9 @@
 //! Notions of a clash that are nearly document 02's. Random files are to tell them from it: those cuts are counted that
-//! have other numbers by another notion. `lists` has the same for job lists.
+//! have other numbers by another notion. `lists` has the same for job lists, `readers` for the
+//! small reader.
 
 pub mod lists;
+pub mod readers;
 
 use crate::enumerate::{clash, cut, cut_with, Clash, Node};
 use crate::rules::Rules;

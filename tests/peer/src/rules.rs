@@ -1,11 +1,11 @@
-//! The rule-file reader: refusals 1 to 7, 23, 8 and 9, in this order.
+//! The rule-file readers, the bench's and the rack controller's small one: refusals 1 to 7, 23, 8 and 9, in this order.
 
 use crate::{to_words, Literals};
 
 /// A refusal's number, with the clause for 5 to 7 and 23, the variable for 8 and the line for 15 to 20.
 pub type Fault = (u32, Option<usize>);
 
-/// The reader's refusals, in the order of its checks.
+/// The readers' refusals, in the order of their checks.
 pub const REFUSALS: [u32; 10] = [1, 2, 3, 4, 5, 6, 7, 23, 8, 9];
 
 /// The largest whole.
@@ -58,9 +58,33 @@ impl Rules {
     }
 }
 
-/// Reads a rule file or gives its refusal.
+/// The most that a reader takes.
+#[derive(Clone, Copy, Debug)]
+pub struct Reader {
+    pub bytes: usize,
+    pub variables: u32,
+    pub clauses: u32,
+}
+
+/// The bench's reader.
+pub const BENCH: Reader = Reader { bytes: 65_536, variables: 32, clauses: 1_024 };
+
+/// The small reader. A file of 4,096 bytes has room for 1,020 clauses, but may claim more.
+pub const SMALL: Reader = Reader { bytes: 4_096, variables: 16, clauses: 1_024 };
+
+/// Reads a rule file on the bench or gives its refusal.
 pub fn read(bytes: &[u8]) -> Result<Rules, Fault> {
-    if !bytes.len().is_multiple_of(4) || bytes.len() < 16 || bytes.len() > 65_536 {
+    read_by(BENCH, bytes)
+}
+
+/// The same on the rack controller, which has the small reader.
+pub fn read_small(bytes: &[u8]) -> Result<Rules, Fault> {
+    read_by(SMALL, bytes)
+}
+
+/// The same for any reader of at most 32 variables.
+pub fn read_by(reader: Reader, bytes: &[u8]) -> Result<Rules, Fault> {
+    if !bytes.len().is_multiple_of(4) || bytes.len() < 16 || bytes.len() > reader.bytes {
         return Err((1, None));
     }
     let words = to_words(bytes);
@@ -69,7 +93,7 @@ pub fn read(bytes: &[u8]) -> Result<Rules, Fault> {
     if count as usize != words.len() {
         return Err((2, None));
     }
-    if n > 32 || m > 1_024 {
+    if n > reader.variables || m > reader.clauses {
         return Err((3, None));
     }
     if u64::from(start) + 2 * u64::from(n) != body.len() as u64 {

@@ -6,7 +6,7 @@
 //!
 //! | Words | Content |
 //! |---|---|
-//! | 0 | the operation: 1 read, 2 figure, 3 verdict, 4 cut, 5 check, 6 clauses, 7 derive, 8 jobs, 9 tally |
+//! | 0 | operation: 1 read, 2 figure, 3 verdict, 4 cut, 5 check, 6 clauses, 7 derive, 8 jobs, 9 tally, 10 read small |
 //! | 1, 2 | for 3 and 9 lo, the cut's level or the length of the writer's buffer, low word first; else 0 |
 //! | 3, 4 | for 3 and 9 hi; else 0 |
 //! | 5 | the length of the rule file in bytes; for 8 that of the job list, which stands in its place |
@@ -19,7 +19,7 @@
 //!
 //! | Operation | Line |
 //! |---|---|
-//! | 1 | `0 n m start whole` |
+//! | 1, 10 | `0 n m start whole` |
 //! | 2 | `0 figure whole` |
 //! | 3 | `0 above`, `0 below` or `0 within figure` |
 //! | 4 | `0 lower upper open` |
@@ -34,6 +34,7 @@
 //! there before.
 
 mod lists;
+mod small;
 
 pub use lists::{run, Run};
 
@@ -136,6 +137,7 @@ pub fn cases() -> Vec<Case> {
     written_lengths(&mut list);
     lists::job_lists(&mut list);
     lists::tallies(&mut list);
+    small::small_reader(&mut list);
     list.0
 }
 

@@ -1,11 +1,12 @@
-//! The peer by itself: document 01's samples, its methods against each other, and document 02's job lists and tallies.
+//! The peer by itself: document 01's samples, its methods against each other, and document 02's small reader, job lists
+//! and tallies.
 
-use peer::answer::{answer, Answer};
+use peer::answer::{answer, read_small, Answer};
 use peer::generate::{self, Folder, RuleDraft, Seen};
 use peer::list::{self, Job, Kind, Tally};
 use peer::near::{self, Told};
 use peer::random::Random;
-use peer::rules::{self, Rules};
+use peer::rules::{self, Fault, Rules};
 use peer::tables::Tables;
 use peer::writer::{self, DerivationDraft, Limits, LineDraft};
 use peer::{derivation, enumerate, to_bytes, to_words, walk};
@@ -392,6 +393,86 @@ fn no_wrapping() {
     assert_eq!(fault(&rule.words()), Some((9, None)));
     // 2n modulo 2^32.
     assert_eq!(fault(&[0, 1 << 31, 0, 4]), Some((3, None)));
+}
+
+/// The two readers on both sides of each border of the small one.
+#[test]
+fn small_reader() {
+    let check = |file: &[u8], bench: Result<[u64; 4], Fault>, small: Result<[u64; 4], Fault>| {
+        let of = |reading: Result<[u64; 4], Fault>| reading.map_or_else(Answer::refused, |list| numbers(&list));
+        assert_eq!(answer(file, |solver| solver.read()), of(bench), "bench: {} bytes", file.len());
+        assert_eq!(read_small(file), of(small), "small: {} bytes", file.len());
+    };
+    let alike = |file: &[u8], reading| check(file, reading, reading);
+    let refused = |code| Err((code, None));
+    // Empty clauses over existential variables.
+    let words = |n: usize, m: usize| RuleDraft { clauses: vec![Vec::new(); m], prefix: vec![[0, 0]; n] }.words();
+    let file = |n, m| to_bytes(&words(n, m));
+    let with = |n, m, from_end: usize, word| {
+        let mut words = words(n, m);
+        let at = words.len() - from_end;
+        words[at] = word;
+        to_bytes(&words)
+    };
+
+    // Bytes: 4,092, 4,096 and 4,100, with 16 variables and with none.
+    alike(&file(16, 987), Ok([16, 987, 987, 1]));
+    alike(&file(16, 988), Ok([16, 988, 988, 1]));
+    check(&file(16, 989), Ok([16, 989, 989, 1]), refused(1));
+    alike(&file(0, 1_019), Ok([0, 1_019, 1_019, 1]));
+    alike(&file(0, 1_020), Ok([0, 1_020, 1_020, 1]));
+    check(&file(0, 1_021), Ok([0, 1_021, 1_021, 1]), refused(1));
+    for len in [0, 12, 4_093, 4_095, 4_097, 4_099, 4_101] {
+        alike(&file(16, 990)[..len], refused(1));
+    }
+    alike(&file(0, 0), Ok([0, 0, 0, 1]));
+    // Variables.
+    alike(&file(15, 0), Ok([15, 0, 0, 1]));
+    alike(&file(16, 0), Ok([16, 0, 0, 1]));
+    check(&file(17, 0), Ok([17, 0, 0, 1]), refused(3));
+    check(&file(32, 0), Ok([32, 0, 0, 1]), refused(3));
+    alike(&file(33, 0), refused(3));
+    // Both: 4,096 and 4,100 bytes.
+    check(&file(17, 986), Ok([17, 986, 986, 1]), refused(3));
+    check(&file(17, 987), Ok([17, 987, 987, 1]), refused(1));
+    // Clauses that are claimed.
+    alike(&with(0, 1_020, 4, 1_024), Err((5, Some(1_020))));
+    alike(&with(0, 1_020, 4, 1_025), refused(3));
+    check(&file(0, 1_024), Ok([0, 1_024, 1_024, 1]), refused(1));
+    check(&file(0, 1_025), refused(3), refused(1));
+
+    // A wrong last word: within the limits, with more variables and with more bytes, of which there are 5,000.
+    alike(&with(16, 988, 1, 1_025), refused(2));
+    alike(&with(17, 986, 1, 1_025), refused(2));
+    check(&with(16, 989, 1, 1_024), refused(2), refused(1));
+    let mut units = RuleDraft { clauses: vec![vec![0]; 607], prefix: vec![[0, 0]; 16] }.words();
+    check(&to_bytes(&units), Ok([16, 607, 1_214, 1]), refused(1));
+    units[1_249] = 1_251;
+    check(&to_bytes(&units), refused(2), refused(1));
+    // A wrong prefix start, a clause and a variable at fault, and a whole over 2^60, with 16 variables and with 17.
+    for (n, small) in [(16, None), (17, Some(refused(3)))] {
+        let either = |file: &[u8], bench| check(file, bench, small.unwrap_or(bench));
+        let rule =
+            |clauses: &[&[u32]], pair| RuleDraft { prefix: vec![pair; n], ..RuleDraft::new(clauses, &[]) }.bytes();
+        either(&with(n, 500, 2, 499), refused(4));
+        either(&with(n, 500, 4, 499), Err((5, Some(499))));
+        either(&rule(&[&[0], &[2 * n as u32]], [0, 0]), Err((6, Some(1))));
+        either(&rule(&[&[0], &[2, 3]], [0, 0]), Err((7, Some(1))));
+        either(&rule(&[&[0], &[2, 0]], [0, 0]), Err((23, Some(1))));
+        either(&rule(&[&[0]], [0, 1]), Err((8, Some(0))));
+        either(&rule(&[&[0]], [32_768, 32_768]), refused(9));
+    }
+}
+
+/// Random files tell document 02's small reader from what is nearly it.
+#[test]
+fn near_readers_are_told() {
+    let mut random = Random::new(9);
+    let mut told = near::readers::Told::default();
+    for _ in 0..12_000 {
+        told.take(&generate::border_file(&mut random));
+    }
+    told.reached(20);
 }
 
 /// What is a line, and where: closed by a line feed or by the end, unless it is empty there.

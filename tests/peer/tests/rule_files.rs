@@ -1,11 +1,11 @@
-//! The proved solver against the peer on rule files: reading, figure, verdict, tally, cut and the writer.
+//! The proved solver against the peer on rule files: both readers, figure, verdict, tally, cut and the writer.
 
 #![cfg(not(feature = "no-ffi"))]
 
 #[allow(dead_code)]
 mod common;
 
-use common::{random, rounds, Pair, CHECK, CUT, DERIVE, FIGURE, NAMING, READ, VERDICT};
+use common::{random, rounds, Pair, CHECK, CUT, DERIVE, FIGURE, NAMING, READ, READ_SMALL, VERDICT};
 use peer::ffi::{plain, Place};
 use peer::generate::{self, RuleDraft};
 use peer::near::Told;
@@ -107,7 +107,7 @@ fn damaged_files() {
         pair.rule(&mut random, &bytes);
     }
     pair.report("damaged_files");
-    for operation in [READ, FIGURE, VERDICT, CUT, DERIVE] {
+    for operation in [READ, READ_SMALL, FIGURE, VERDICT, CUT, DERIVE] {
         pair.reached(operation, [0, 1, 2, 3, 4, 5, 6, 7, 23, 8], 50);
         pair.named_later(operation, [23], 50);
     }
@@ -125,7 +125,7 @@ fn faulty_files() {
         pair.rule(&mut random, &bytes);
     }
     pair.report("faulty_files");
-    for operation in [READ, FIGURE, VERDICT, CUT, DERIVE] {
+    for operation in [READ, READ_SMALL, FIGURE, VERDICT, CUT, DERIVE] {
         pair.reached(operation, [0], 300);
         pair.reached(operation, rules::REFUSALS, 300);
         pair.named_later(operation, NAMING, 300);
@@ -156,6 +156,8 @@ fn unordered_files() {
         pair.reached(operation, [23], 10_000);
         pair.named_later(operation, [23], 3_000);
     }
+    pair.reached(READ_SMALL, [23], 9_000);
+    pair.named_later(READ_SMALL, [23], 3_000);
     assert!(last >= 1_000 && far >= 50, "the last of several clauses {last}, a clause after 255 {far} times");
 }
 
@@ -239,6 +241,7 @@ fn read_only_pages() {
         library.lend_rule(&bytes, Place::AtEnd);
         library.read_only(true);
         library.read();
+        library.read_small();
         library.figure();
         library.verdict(0, 1);
         library.tally(0, 1, [0; 5]);

@@ -62,6 +62,7 @@ fn library() {
             library.lend_rule(&case.rule, place);
             let got = match &case.operation {
                 Operation::Read => library.read(),
+                Operation::ReadSmall => library.read_small(),
                 Operation::Figure => library.figure(),
                 Operation::Verdict(lo, hi) => library.verdict(*lo, *hi),
                 Operation::Cut(level) => library.cut(*level),

@@ -4,7 +4,7 @@ use mathlib.Core.Bool.{false}
 use native.Mathlib.Nat.{not-le-of-lt}
 use native.Mathlib.Omega.{arith}
 use borrow.Author.Needs.{needs}
-use Rattle.rule_file.specs.Limits.{derivation-trailer}
+use Rattle.rule_file.specs.Limits.{max-bytes, derivation-trailer}
 use Rattle.rule_file.specs.Words.{wrong-length}
 use Rattle.rule_file.specs.Accepted.{Length}
 use Rattle.rule_file.proofs.WordsLaws.{fails, right-length}
@@ -15,11 +15,11 @@ use Rattle.derivation.proofs.check_counts.Statement.{statement}
 use Rattle.derivation.proofs.check_counts.Tie as tie
 
 -- past the first test 13 is passed, and past the other two 14
-length-passed : (c : tie.Else1) → wrong-length derivation-trailer (c .before .before .before .before .args .derivation .now) ≡ false
+length-passed : (c : tie.Else1) → wrong-length derivation-trailer max-bytes (c .before .before .before .before .args .derivation .now) ≡ false
 length-passed c = sym (c .before .has-wrong-length .ensures .0) ∙ c .if1 .left
 
-length-is : (c : tie.Else1) → Length derivation-trailer (c .before .before .before .before .args .derivation .now)
-length-is c = right-length derivation-trailer _ .0 (length-passed c)
+length-is : (c : tie.Else1) → Length derivation-trailer max-bytes (c .before .before .before .before .args .derivation .now)
+length-is c = right-length derivation-trailer max-bytes _ .0 (length-passed c)
 
 counts-are : (c : tie.Else3) → RightCounts (c .before .before .before .before .before .before .before .before .args .derivation .now)
 counts-are c =

@@ -1,26 +1,13 @@
--- `ssat_read` meets its contract: each case of the reader's answer is handed over. Assumes nothing.
-use mathlib.Core.Path.{refl, sym, ap, _∙_}
-use Rattle.rule_file.specs.Reader.{reading}
-use Rattle.ssat_c.specs.Interface.{header-values}
-use Rattle.ssat_c.proofs.InterfaceLaws.{hand-refusal, hand-answer}
+-- `ssat_read` meets its contract: it hands over the answer of `read`. Assumes nothing.
+use mathlib.Core.Path.{refl}
 use borrow.Author.Needs.{needs}
 use Rattle.ssat_c.proofs.ssat_read.Statement.{statement}
 use Rattle.ssat_c.proofs.ssat_read.Tie as tie
 
 returns : tie.Need-returns
-returns c = let (r, o) = hand-refusal header-values _ _ _ _ _ (sym (c .before .before .before .before .before .read .ensures .0) ∙ ap reading (c .before .before .before .refusal .given .1)) (c .refuse .ensures .0) (c .refuse .ensures .1) in (r, (o, refl))
-
-returns-2 : tie.Need-returns-2
-returns-2 c = let (r, o) = hand-answer header-values _ _ _ _ _ (sym (c .before .before .before .before .before .read .ensures .0) ∙ ap reading (c .before .before .before .h .given .1)) (c .fill .ensures .0) (c .fill .ensures .1) in (r, (o, refl))
+returns c =
+    let e = c .before .read .ensures .0 in
+    (rw e at (c .hand-over .ensures .0), (rw e at (c .hand-over .ensures .1), refl))
 
 pub ssat-read-spec : {M : Type 1} → statement M
-ssat-read-spec =
-    tie.close
-    (tie.spec
-    (λ c κs. search needs)
-    (λ c. search needs)
-    (λ c κs. search needs)
-    (λ c. search needs)
-    (λ c κs. search needs)
-    returns
-    returns-2)
+ssat-read-spec = tie.close (tie.spec (λ c κs. search needs) (λ c κs. search needs) returns)

@@ -1,9 +1,11 @@
 //! Makers of rule files and derivations, random ones, valid ones and damaged ones, and of job lists.
 
+mod borders;
 mod derivations;
 mod lists;
 mod rule_files;
 
+pub use borders::*;
 pub use derivations::*;
 pub use lists::*;
 pub use rule_files::*;

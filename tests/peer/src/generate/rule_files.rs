@@ -73,17 +73,22 @@ pub fn clause(random: &mut Random, n: usize, k: usize) -> Vec<u32> {
     clause
 }
 
-/// A valid rule file of `n` variables and `m` clauses, most of them short.
-pub fn rule(random: &mut Random, n: usize, m: usize) -> RuleDraft {
+/// Any pattern, most often a mixed one.
+pub fn pattern(random: &mut Random) -> Pattern {
     let size = random.within(1, 5);
-    let pattern = random.pick(&[
+    random.pick(&[
         Pattern::Existential,
         Pattern::Randomized,
         Pattern::Alternating,
         Pattern::Blocked(size),
         Pattern::Mixed,
         Pattern::Mixed,
-    ]);
+    ])
+}
+
+/// A valid rule file of `n` variables and `m` clauses, most of them short.
+pub fn rule(random: &mut Random, n: usize, m: usize) -> RuleDraft {
+    let pattern = pattern(random);
     let usual = random.within(1, 3);
     let odd = random.pick(&[4, 20, 200]);
     let mut clauses = Vec::new();
@@ -224,12 +229,18 @@ pub fn faulty_rule(random: &mut Random, faults: &[u32]) -> Vec<u8> {
     let n = random.within(0, 9);
     let m = random.within(0, 2 * n + 2);
     let mut draft = rule(random, n, m);
-    let bound = 2 * n as u32;
     for clause in &mut draft.clauses {
         if clause.is_empty() && n > 0 && random.once_in(2) {
             clause.push(random.below(2 * n) as u32);
         }
     }
+    with_faults(random, draft, faults)
+}
+
+/// A valid rule file with these faults put into it, as far as its shape allows.
+pub fn with_faults(random: &mut Random, mut draft: RuleDraft, faults: &[u32]) -> Vec<u8> {
+    let (n, m) = (draft.prefix.len(), draft.clauses.len());
+    let bound = 2 * n as u32;
     let has = |fault: u32| faults.contains(&fault);
     if has(9) {
         for pair in draft.prefix.iter_mut().take(random.within(4, 8)) {
@@ -303,7 +314,7 @@ pub fn faulty_rule(random: &mut Random, faults: &[u32]) -> Vec<u8> {
     if has(5) && m > 0 {
         match random.below(4) {
             0 => words[count - 4] -= 1,
-            1 => words[count - 4] += random.within(1, 1_024 - m) as u32,
+            1 if m < 1_024 => words[count - 4] += random.within(1, 1_024 - m) as u32,
             _ => {
                 for _ in 0..times {
                     let before = &draft.clauses[..random.below(m)];

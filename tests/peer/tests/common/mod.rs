@@ -1,13 +1,16 @@
 //! Compares the proved solver with the peer, call by call, and counts what was answered.
 
-use peer::answer::{Answer, Solver};
+pub mod readings;
+
+use peer::answer::{self, Answer, Solver};
 use peer::ffi::{buffer_before, Library, Place, Returned, BEFORE, LONGEST};
 use peer::generate;
 use peer::list::{Kind, Tally};
 use peer::near::kind_of_level;
 use peer::random::Random;
-use peer::rules;
+use peer::rules::{self, Fault, Rules};
 use peer::tables::Tables;
+use readings::Readings;
 
 pub const READ: usize = 0;
 pub const FIGURE: usize = 1;
@@ -15,7 +18,8 @@ pub const VERDICT: usize = 2;
 pub const CUT: usize = 3;
 pub const CHECK: usize = 4;
 pub const DERIVE: usize = 5;
-const NAMES: [&str; 6] = ["read", "figure", "verdict", "cut", "check", "derive"];
+pub const READ_SMALL: usize = 6;
+const NAMES: [&str; 7] = ["read", "figure", "verdict", "cut", "check", "derive", "read_small"];
 
 /// One more than the highest number that is returned.
 const NUMBERS: usize = 24;
@@ -29,11 +33,12 @@ const MOST_STEPS: u128 = 2_000_000;
 pub struct Pair {
     pub library: Library,
     /// How often each operation returned each number.
-    pub counts: [[u64; NUMBERS]; 6],
+    pub counts: [[u64; NUMBERS]; NAMES.len()],
     /// How often a verdict was within, above and below.
     pub verdicts: [u64; 3],
     /// How often each operation's refusals named a clause, variable or line after the first.
-    pub later: [[u64; NUMBERS]; 6],
+    pub later: [[u64; NUMBERS]; NAMES.len()],
+    pub readings: Readings,
     /// How many cuts clashes gave other numbers: at level 0, between and at level n - 1.
     pub by_clashes: [u64; 3],
     /// How many of them have another open weight alone.
@@ -97,9 +102,10 @@ impl Pair {
     pub fn new() -> Pair {
         Pair {
             library: Library::new(),
-            counts: [[0; NUMBERS]; 6],
+            counts: [[0; NUMBERS]; NAMES.len()],
             verdicts: [0; 3],
-            later: [[0; NUMBERS]; 6],
+            later: [[0; NUMBERS]; NAMES.len()],
+            readings: Readings::default(),
             by_clashes: [0; 3],
             open_alone: 0,
             tallied: Tallied::default(),
@@ -126,9 +132,8 @@ impl Pair {
         let input = || format!("rule file {}", to_hex(bytes));
         let rules = rules::read(bytes);
         self.library.lend_rule(bytes, place(random));
+        self.readers(bytes, &rules);
         let solver = Solver::new(&rules);
-        let got = self.library.read();
-        self.same(READ, &solver.read(), got, input);
         self.derive(random, bytes, &solver);
         let (n, m, whole) = match &rules {
             Ok(rules) => (rules.n() as u64, rules.clauses.len(), rules.whole() as u64),
@@ -187,12 +192,20 @@ impl Pair {
         true
     }
 
-    /// Compares the reading of one rule file.
+    /// Compares both readers on one rule file.
     pub fn read(&mut self, random: &mut Random, bytes: &[u8]) {
         self.library.lend_rule(bytes, place(random));
-        let rules = rules::read(bytes);
-        let got = self.library.read();
-        self.same(READ, &Solver::new(&rules).read(), got, || format!("rule file {}", to_hex(bytes)));
+        self.readers(bytes, &rules::read(bytes));
+    }
+
+    /// Compares both readers on the rule file that is lent, with the peer and with each other.
+    fn readers(&mut self, bytes: &[u8], rules: &Result<Rules, Fault>) {
+        let input = || format!("rule file {}", to_hex(bytes));
+        let bench = self.library.read();
+        self.same(READ, &answer::reading(rules), bench, input);
+        let small = self.library.read_small();
+        self.same(READ_SMALL, &answer::read_small(bytes), small, input);
+        self.readings.take(bytes, bench, small);
     }
 
     /// Lends a rule file for the checks that follow.
@@ -274,7 +287,7 @@ impl Pair {
         for (operation, counts) in self.counts.iter().enumerate() {
             let total: u64 = counts.iter().sum();
             if total > 0 {
-                text += &format!("  {:7} {total:8} calls:", NAMES[operation]);
+                text += &format!("  {:10} {total:8} calls:", NAMES[operation]);
                 for (number, count) in counts.iter().enumerate().filter(|(_, count)| **count > 0) {
                     text += &format!(" {number}:{count}");
                 }
@@ -285,7 +298,7 @@ impl Pair {
             text +=
                 &format!("  other numbers by clashes: {:?}, open weight alone: {}\n", self.by_clashes, self.open_alone);
         }
-        print!("{text}");
+        print!("{text}{}", self.readings.report());
     }
 }
 
