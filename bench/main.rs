@@ -494,6 +494,79 @@ mod bench {
         }
     }
 
+    // -----------------------------------------------------------------------------------------
+    // The repair
+    // -----------------------------------------------------------------------------------------
+
+    /// 1,000 clauses of 15 literals, in 64,272 bytes.
+    fn in_order() -> RuleDraft {
+        let mut random = Random::new(9_000);
+        RuleDraft {
+            clauses: (0..1_000)
+                .map(|_| generate::clause(&mut random, 32, 15))
+                .collect(),
+            prefix: vec![[1, 2]; 32],
+        }
+    }
+
+    /// The same with falling clauses. In every fourth the second literal is a repeat of the first, or,
+    /// in every sixteenth, its opposite.
+    fn falling() -> RuleDraft {
+        let mut rule = in_order();
+        for (at, clause) in rule.clauses.iter_mut().enumerate() {
+            clause.reverse();
+            match at % 16 {
+                0 => clause[1] = clause[0] ^ 1,
+                4 | 8 | 12 => clause[1] = clause[0],
+                _ => {}
+            }
+        }
+        rule
+    }
+
+    /// The repair against the bench's reader and a copy of the file: it is to take at most twice as
+    /// long as the two together. The reader refuses the second file at once, by 7, so that its time
+    /// for that is taken on the first, which has the same length and is in order.
+    fn repairs() {
+        println!("| rule file | n | m | bytes | new bytes | repair, ns | read, ns | copy, ns | repair / (read + copy) | peer, ns | repair / peer | stack, bytes |");
+        println!("|---|--:|--:|--:|--:|--:|--:|--:|--:|--:|--:|--:|");
+        let readable = in_order().bytes();
+        assert_eq!(plain::read(&readable).0, 0);
+        for (name, rule) in [
+            ("nothing to do", in_order()),
+            ("falling, with repeats and opposites", falling()),
+        ] {
+            let file = rule.bytes();
+            assert_eq!(file.len(), readable.len());
+            let mut buffer = vec![0; file.len()];
+            let expected = answer::repair(&file, file.len());
+            assert_eq!(plain::repair(&file, &mut buffer), (0, expected.out([0; 4])));
+            assert!(buffer.starts_with(&expected.written));
+            let (time, stack) = seconds_on_stack(&mut many(|| {
+                plain::repair(black_box(&file), black_box(&mut buffer))
+            }));
+            let read = seconds_on_stack(&mut many(|| plain::read(black_box(&readable)))).0;
+            let copy = seconds_on_stack(&mut many(|| {
+                black_box(&mut buffer).copy_from_slice(black_box(&readable))
+            }))
+            .0;
+            let peer = seconds(many(|| answer::repair(black_box(&file), file.len())));
+            println!(
+                "| {name} | {} | {} | {} | {} | {} | {} | {} | {} | {} | {} | {stack} |",
+                rule.prefix.len(),
+                rule.clauses.len(),
+                file.len(),
+                expected.written.len(),
+                ns(time),
+                ns(read),
+                ns(copy),
+                ratio(time, read + copy),
+                ns(peer),
+                ratio(time, peer),
+            );
+        }
+    }
+
     pub fn main() {
         trees();
         println!();
@@ -502,5 +575,7 @@ mod bench {
         writing();
         println!();
         readers();
+        println!();
+        repairs();
     }
 }

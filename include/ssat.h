@@ -1,7 +1,7 @@
 /* SSAT: stochastic Boolean satisfiability, on rule files and derivation files. What the files hold, what their numbers
  * mean and where each refusal's border lies is in docs/FORMATS.md.
  *
- * Each of the eight functions returns 0 for an answer, else the number of the refusal. The answer depends on the
+ * Each of the nine functions returns 0 for an answer, else the number of the refusal. The answer depends on the
  * arguments alone; several threads may call at once. The whole is the product of the totals of all variables: the value
  * of the formula, out of the whole, is the maximum probability that every clause holds.
  *
@@ -11,7 +11,8 @@
  *                      null, even where the length is 0.
  *   buffer             `capacity` bytes, lent for writing, of any content and any alignment; no byte past them is
  *                      touched. Not null, even where the capacity is 0, and no part of the other buffers.
- *     answer           the derivation stands at its start, and the bytes past the derivation's end keep their content.
+ *     answer           the derivation or the repaired file stands at its start, and the bytes past its end keep their
+ *                      content.
  *     refusal          `buffer` is unchanged.
  *   out                four numbers, lent for writing; not null, aligned, and no part of the other buffers.
  *     answer           the numbers named below stand in `out` from index 0; the rest is set to 0.
@@ -19,7 +20,8 @@
  *                      23 the number of a clause, 8 that of a variable, 15 to 20 that of a line, each counted from 0.
  *   tally              five counts, lent for reading and writing; not null, aligned, and no part of the other buffers.
  *
- * Refusals of the rule file, by every function; ssat_read_small has 4,096 bytes in 1 and 16 variables in 3:
+ * Refusals of the rule file, by every function; ssat_read_small has 4,096 bytes in 1 and 16 variables in 3, and
+ * ssat_repair has no 7 and no 23:
  *    1  length not a multiple of 4, under 16 or over 65,536 bytes
  *    2  the last word is not the word count
  *    3  more than 32 variables or more than 1,024 clauses
@@ -48,6 +50,8 @@
  *   21  the closing reference names nothing, or a clause or line with literals
  * Refusal of the derivation that is to be written, after those of the rule file:
  *   22  it exceeds the buffer, 65,536 bytes or 1,024 lines
+ * Refusal of a repair, after those of the rule file:
+ *   25  the buffer is shorter than the rule file
  * The first that applies is returned, in this order; 17 to 20 line by line.
  */
 
@@ -110,6 +114,13 @@ uint32_t ssat_check(const uint8_t *rule, size_t len, const uint8_t *derivation, 
  * out: byte length, 0, 0, 0.
  * Refusals: 1 to 9, 23, 22. */
 uint32_t ssat_derive(const uint8_t *rule, size_t len, uint8_t *buffer, size_t capacity, uint64_t out[4]);
+
+/* Repairs a stored rule file into `buffer`: literals in rising order, each once; clauses that hold a literal and its
+ * opposite dropped; the others in their order; the prefix as it was; a trailer that fits. ssat_read accepts what is
+ * written. A clause counts as reordered where its literals, without the later repeats, were not rising.
+ * out: byte length, clauses dropped, literals dropped from kept clauses, kept clauses reordered.
+ * Refusals: 1 to 6, 8, 9, 25. */
+uint32_t ssat_repair(const uint8_t *rule, size_t len, uint8_t *buffer, size_t capacity, uint64_t out[4]);
 
 #ifdef __cplusplus
 }

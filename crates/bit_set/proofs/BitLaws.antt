@@ -1,11 +1,12 @@
--- Laws of bit operations: distribution, order, single bits, powers of four. Those of sets are in BitSetLaws. Assumes
--- nothing.
+-- Laws of bit operations: distribution, order, single bits, powers of two and of four. Those of sets are in BitSetLaws.
+-- Assumes nothing.
 use mathlib.Core.Path.{_≡_, refl, sym, ap, ap₂, _∙_}
 use mathlib.Core.Bool.{Bool, true, false, _&&_}
-use Prim.Native.Nat.{ℕ, suc, _+_, _*_, _/_, _%_, _^_, _≤_, _<_, min, max}
+use Prim.Native.Nat.{ℕ, zero, suc, _+_, _*_, _/_, _%_, _^_, _≤_, _<_, min, max}
 use native.Mathlib.Nat.{mul-left-comm, pow-suc}
 use native.Mathlib.Omega.{arith}
 use lib.Arith.{bin-ind, digits-mod}
+use lib.Pow.{pow-pos}
 use lib.Bits.{bitAnd, bitOr, and-step, or-step, and-shr, or-shr, and-le-l, and-le-r, or-add-and, or-lt, or-shifted, and-comm, and-mask, and-high}
 use lib.Dec.{leb}
 use borrow.Author.Tests.{leb-true, leb-false, le-leb, lt-leb}
@@ -55,6 +56,11 @@ bit-0 m = and-comm 1 m ∙ and-mask m 1
 
 pub bit-1 : (m : ℕ) → bitAnd 2 m ≡ m / 2 % 2 * 2
 bit-1 m = and-comm 2 m ∙ and-high m 1 1
+
+-- a number has no more digits than itself
+pub under-power : (n : ℕ) → n < 2 ^ n
+under-power zero = pow-pos 0
+under-power (suc n) = omega (arith, under-power n, pow-suc 2 n)
 
 pub four-pow : (k : ℕ) → 2 ^ (2 * suc k) ≡ 4 * 2 ^ (2 * k)
 four-pow k =

@@ -1,25 +1,40 @@
--- A set that is not empty has a number; a set with one number alone; the even numbers, and a set with an even number
--- and the one after it. Assumes nothing.
+-- A set that is not empty has a number, and when a set has a greater one than l; a set with one number alone; the even
+-- numbers, and a set with an even number and the one after it. Assumes nothing.
 use mathlib.Core.Path.{_≡_, refl, sym, ap, ap₂, _∙_}
 use mathlib.Core.Logic.{_↔_, _≢_}
 use mathlib.Core.Bool.{true, false, false≢true, cond, not, _&&_, _||_, or-true}
-use Prim.Native.Nat.{ℕ, zero, suc, _+_, _-_, _*_, _/_, _%_, _^_, _<_}
-use native.Mathlib.Nat.{pos-of-ne-zero, mod-eq-of-lt}
-use native.Mathlib.Decide.{ℕ-discrete}
+use Prim.Native.Nat.{ℕ, zero, suc, _+_, _-_, _*_, _/_, _%_, _^_, _≤_, _<_}
+use native.Mathlib.Nat.{pos-of-ne-zero, mod-eq-of-lt, pow-suc, le-div-iff-mul-le}
+use native.Mathlib.Decide.{ℕ-discrete, decLt}
 use native.Mathlib.Omega.{arith}
-use lib.Pow.{shl-shr}
+use lib.Pow.{pow-pos, shl-shr, shr-shr}
 use lib.Bits.{bitAnd, and-le-l, and-le-r}
 use lib.Count.{trailingZeros}
 use lib.Dec.{eqb, ltb, leb·suc-suc}
 use borrow.Author.Tests.{eqb-true, eqb-false, eq-eqb, ne-eqb, lt-ltb, le-ltb, ltb-true, not-true}
 use Rattle.formula.proofs.Membership.{and-iff}
 use Rattle.bit_set.specs.BitSet.{has, alone, evens, pairs, has-pair, paired}
+use Rattle.bit_set.proofs.BitLaws.{under-power}
 use Rattle.bit_set.proofs.BitSetLaws.{has-none, has-including}
 use Rattle.bit_set.proofs.DigitLaws.{has-shifted, has-both, lowest-is-least, trailing-first}
-use Rattle.bit_set.proofs.PartLaws.{has-union, has-lowest, has-later}
+use Rattle.bit_set.proofs.PartLaws.{has-union, has-within, has-lowest, has-later}
 
 some-number : (k s : ℕ) → s < 2 ^ k → s ≢ 0 → (x : ℕ) × (has s x ≡ true)
 some-number k s small n = let (_, (is, _)) = trailing-first k s (pos-of-ne-zero n) small in (trailingZeros k s, is)
+
+-- what the shift by l leaves is over 1 exactly where the set has a number over l
+pub has-greater-iff : (s l : ℕ) → (ltb 1 (s / 2 ^ l) ≡ true) ↔ ((y : ℕ) × (l < y) × (has s y ≡ true))
+has-greater-iff s l = (
+  λ t.
+      let half : s / 2 ^ l / 2 ^ 1 ≡ s / 2 ^ (l + 1) = shr-shr s l 1 in
+      let (x, is) = some-number _ (s / 2 ^ (l + 1)) (under-power _) (λ z. omega (arith, ltb-true 1 (s / 2 ^ l) t)) in
+      (l + 1 + x, omega arith, sym (has-shifted s (l + 1) x) ∙ is),
+  λ w. let (y, h, is) = w in lt-ltb 1 (s / 2 ^ l) (le-div-iff-mul-le (pow-pos l) .1 (large y h is (decLt s (2 ^ suc l)))),
+)
+  where
+    large : (y : ℕ) → l < y → has s y ≡ true → Dec (s < 2 ^ suc l) → 2 * 2 ^ l ≤ s
+    large y h is (yes small) = absurd (omega (arith, has-within s (suc l) y small is))
+    large y h is (no n) = omega (arith, pow-suc 2 l)
 
 pub alone-iff : (k s x : ℕ) → s < 2 ^ k → (has (alone s) x ≡ true) ↔ ((has s x ≡ true) × ((y : ℕ) → has s y ≡ true → y ≡ x))
 unfolding alone

@@ -1,11 +1,12 @@
--- The bytes of words: how many they are, those of two lists one after the other, and the word read back from its four
--- bytes. How a buffer takes bytes is in TextLaws. Assumes nothing.
+-- The bytes of words: how many they are, those of two lists one after the other, the word read back from its four
+-- bytes; then four bytes as those of their word, and the first four of a list. How a buffer takes bytes is in TextLaws.
+-- Assumes nothing.
 use mathlib.Core.Path.{_≡_, refl, sym}
 use mathlib.Core.List.{List, [], _∷_, _++_, append-assoc}
-use Prim.Native.Nat.{ℕ, zero, suc, _+_, _*_, _/_, _%_, _^_, _<_}
+use Prim.Native.Nat.{ℕ, zero, suc, _+_, _*_, _/_, _%_, _^_, _≤_, _<_}
 use native.Mathlib.Nat.{le-of-suc-le-suc, mod-eq-of-lt, div-div-eq-div-mul}
 use native.Mathlib.Omega.{arith}
-use lib.ListN.{length, getD, length-append}
+use lib.ListN.{length, getD, take, length-append}
 use lib.Seq.{getD-append-add}
 use Rattle.buffer.specs.Bytes.{word-bytes, bytes-of}
 
@@ -55,3 +56,26 @@ word-back (w ∷ ws) (suc i) h fit =
     let e₃ : 4 * suc i + 3 ≡ 4 + (4 * i + 3) = omega arith in
     let e₀ : 4 * suc i ≡ 4 + 4 * i = omega arith in
     rw (e₁, e₂, e₃, e₀) (simp past (word-back ws i (le-of-suc-le-suc h) (λ k k<. fit (suc k) (omega arith))))
+
+low-byte : (x q : ℕ) → x < 256 → (x + 256 * q) % 256 ≡ x
+low-byte x q h = omega arith
+
+-- four bytes are those of their word
+pub four-bytes : (x y z t : ℕ) → x < 256 → y < 256 → z < 256 → t < 256
+    → word-bytes (x + 256 * y + 65536 * z + 16777216 * t) ≡ x ∷ y ∷ z ∷ t ∷ []
+unfolding word-bytes
+four-bytes x y z t hx hy hz ht =
+    let w : ℕ = x + 256 * y + 65536 * z + 16777216 * t in
+    let e₀ : w ≡ x + 256 * (y + 256 * z + 65536 * t) = omega arith in
+    let e₁ : w / 256 ≡ y + 256 * (z + 256 * t) = omega arith in
+    let e₂ : w / 65536 ≡ z + 256 * t = omega arith in
+    let e₃ : w / 16777216 ≡ t + 256 * 0 = omega arith in
+    rw (e₁, e₂, e₃, e₀, low-byte x _ hx, low-byte y _ hy, low-byte z _ hz, low-byte t _ ht)
+
+-- the first four of a list
+pub take-four : (xs : List ℕ) → 4 ≤ length xs → take 4 xs ≡ getD xs 0 0 ∷ getD xs 1 0 ∷ getD xs 2 0 ∷ getD xs 3 0 ∷ []
+take-four (x ∷ y ∷ z ∷ t ∷ xs) h = refl
+take-four (x ∷ y ∷ z ∷ []) h = absurd (omega arith)
+take-four (x ∷ y ∷ []) h = absurd (omega arith)
+take-four (x ∷ []) h = absurd (omega arith)
+take-four [] h = absurd (omega arith)

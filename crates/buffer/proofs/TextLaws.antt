@@ -3,7 +3,7 @@
 -- BytesLaws. Assumes nothing.
 use mathlib.Core.Path.{_≡_, sym, ap, ap₂, _∙_}
 use mathlib.Core.List.{List, [], _∷_, _++_, append-nil, append-assoc}
-use Prim.Native.Nat.{ℕ, zero, suc, _+_, _≤_, _<_, zero-le}
+use Prim.Native.Nat.{ℕ, zero, suc, _+_, _-_, _≤_, _<_, zero-le}
 use native.Mathlib.Nat.{add-zero, le-of-suc-le-suc}
 use native.Mathlib.Omega.{arith}
 use native.Mathlib.Numerals.{add-one}
@@ -80,6 +80,18 @@ put-at-start {a} {s} {b} {r} p =
     let front : take r b ≡ s = put-front zero-le p in
     let n : r ≡ length (take r b) = e ∙ ap length (sym front) in
     ((omega (arith, length-take r b), n), e, front, put-past zero-le p)
+
+-- a text at the start stands there still, and a longer one takes its place
+module _ {a b s : List ℕ} {r : ℕ} (p : Put a 0 s b r) where
+  pub put-again : Put b 0 s b r
+  put-again = let (_, _, front, _) = put-at-start p in record { ends = p .ends; contents = sym (take-append-drop r b) ∙ ap (_++ drop r b) front }
+
+  pub put-over : {t c : List ℕ} {e : ℕ} → r ≤ e → Put b 0 t c e → Put a 0 t c e
+  put-over {t} {c} {e} h q =
+      let past : drop r b ≡ drop r a = put-at-start p .3 in
+      let more : r + (e - r) ≡ e = omega arith in
+      let same : drop e b ≡ drop e a = ap (λ k. drop k b) (sym more) ∙ sym (drop-drop (e - r) r b) ∙ ap (drop (e - r)) past ∙ drop-drop (e - r) r a ∙ ap (λ k. drop k a) more in
+      record { ends = q .ends; contents = q .contents ∙ ap (t ++_) same }
 
 -- one number more
 pub blanks-more :

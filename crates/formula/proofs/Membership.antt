@@ -1,14 +1,14 @@
 -- The tests on lists, as statements on membership. Assumes nothing.
 use Prim.Native.Nat.{ℕ, zero, suc, _*_, _<_}
 use native.Mathlib.Nat.{not-suc-le-zero, le-of-suc-le-suc}
-use mathlib.Core.Path.{_≡_, refl, ap₂}
-use mathlib.Core.Logic.{_⊎_, inl, inr, ⊎-elim, _↔_}
-use mathlib.Core.Bool.{Bool, true, false, _&&_, _||_, or-true, false≢true}
-use mathlib.Core.List.{List, [], _∷_, List·Memᴰ·head, List·Memᴰ·tail, Memᴰ·cast}
+use mathlib.Core.Path.{_≡_, refl, sym, ap, ap₂, _∙_}
+use mathlib.Core.Logic.{_⊎_, inl, inr, ⊎-elim, _↔_, _≢_}
+use mathlib.Core.Bool.{Bool, true, false, cond, _&&_, _||_, or-true, false≢true}
+use mathlib.Core.List.{List, [], _∷_, List·Memᴰ·head, List·Memᴰ·tail, List·Memᴰ·not-nil, List·Memᴰ·cases-cons, Memᴰ·cast}
 use lib.ListN.{length, getD}
 use lib.Dec.{eqb, leb}
 use borrow.Author.Tests.{eqb-true, eqb-false, eq-eqb, ne-eqb, leb-false, lt-leb}
-use Rattle.formula.specs.Formula.{some-of, _∈_, member, all-of, out-of-range}
+use Rattle.formula.specs.Formula.{some-of, _∈_, member, all-of, out-of-range, without}
 use Rattle.formula.proofs.SomeLaws.{none-first, none-rest}
 
 pub and-iff : (a b : Bool) → (a && b ≡ true) ↔ ((a ≡ true) × (b ≡ true))
@@ -86,3 +86,27 @@ member-iff l c = (
 
 pub not-member-iff : (l : ℕ) (c : List ℕ) → (member l c ≡ false) ↔ (¬ (l ∈ c))
 not-member-iff l c = (λ e m. eqb-false l l (none-of (eqb l) e m) refl, λ n. of-none (eqb l) c (λ k m. ne-eqb l k (λ e. n (Memᴰ·cast e m))))
+
+-- the literals of a clause other than one
+pub without-iff : (l k : ℕ) (c : List ℕ) → (l ∈ without k c) ↔ ((l ∈ c) × (l ≢ k))
+unfolding without
+without-iff l k [] = (λ m. (m, absurd (List·Memᴰ·not-nil m)), λ h. h .0)
+without-iff l k (j ∷ c) = go (eqb j k) refl (without-iff l k c)
+  where
+    go : (b : Bool) → eqb j k ≡ b → (l ∈ without k c) ↔ ((l ∈ c) × (l ≢ k))
+        → (l ∈ cond b (without k c) (j ∷ without k c)) ↔ ((l ∈ j ∷ c) × (l ≢ k))
+    go true e ih = (
+      λ m. (List·Memᴰ·tail (ih .0 m .0), ih .0 m .1),
+      λ h. ⊎-elim (λ g. absurd (h .1 (g ∙ eqb-true j k e))) (λ m. ih .1 (m, h .1)) (List·Memᴰ·cases-cons (h .0)),
+    )
+    go false e ih = (
+      λ m. ⊎-elim (λ g. (List·Memᴰ·head g, λ n. eqb-false j k e (sym g ∙ n))) (λ m. (List·Memᴰ·tail (ih .0 m .0), ih .0 m .1)) (List·Memᴰ·cases-cons m),
+      λ h. ⊎-elim (λ g. List·Memᴰ·head g) (λ m. List·Memᴰ·tail (ih .1 (m, h .1))) (List·Memᴰ·cases-cons (h .0)),
+    )
+
+-- which are all where it does not have that one
+pub without-none : (l : ℕ) (c : List ℕ) → (¬ (l ∈ c)) → without l c ≡ c
+unfolding without
+without-none l [] none = refl
+without-none l (k ∷ ks) none =
+    rw (ne-eqb k l (λ e. none (List·Memᴰ·head (sym e)))) (ap (k ∷_) (without-none l ks (λ m. none (List·Memᴰ·tail m))))

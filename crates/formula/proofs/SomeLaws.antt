@@ -11,11 +11,16 @@ use lib.ListN.{length, getD}
 use borrow.Author.Tests.{not-true, not-false}
 use Rattle.formula.specs.Formula.{some-of, all-of, repeats}
 
--- two answers that are true together are equal
+-- two answers that are true together are equal, and so are two that are false together
 pub same-truth : {s t : Bool} → (s ≡ true) ↔ (t ≡ true) → s ≡ t
 same-truth {s = true} e = sym (e .0 refl)
 same-truth {s = false} {t = true} e = e .1 refl
 same-truth {s = false} {t = false} e = refl
+
+pub same-falsity : {s t : Bool} → (s ≡ false) ↔ (t ≡ false) → s ≡ t
+same-falsity {s = false} e = sym (e .0 refl)
+same-falsity {s = true} {t = false} e = e .1 refl
+same-falsity {s = true} {t = true} e = refl
 
 pub or-swap : (r s t : Bool) → r || (s || t) ≡ s || (r || t)
 or-swap true true t = refl

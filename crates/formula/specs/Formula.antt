@@ -73,6 +73,11 @@ unordered (l ∷ ls) = some-of (λ k. leb (variable k) (variable l)) ls || unord
 unfoldable pub ill-formed : ℕ → List ℕ → Bool
 ill-formed n c = out-of-range n c || unordered c
 
+-- the literals of a clause other than l
+unfoldable pub without : ℕ → List ℕ → List ℕ
+without l [] = []
+without l (k ∷ ks) = cond (eqb k l) (without l ks) (k ∷ without l ks)
+
 -- a rising list with l in its place, where it stands once
 unfoldable pub insert-once : ℕ → List ℕ → List ℕ
 insert-once l [] = l ∷ []

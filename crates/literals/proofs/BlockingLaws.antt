@@ -14,12 +14,12 @@ use borrow.Author.Tests.{le-leb, lt-leb}
 use Rattle.formula.specs.Formula.{opposite, some-of, member, _∈_}
 use Rattle.formula.proofs.SomeLaws.{same-truth, all-by-places}
 use Rattle.formula.proofs.Membership.{all-of-iff, some-of-iff, getD-in}
+use Rattle.formula.proofs.OrderLaws.{opposite-is}
 use Rattle.bit_set.specs.BitSet.{has, mask}
 use Rattle.bit_set.proofs.BitSetLaws.{has-iff}
 use Rattle.bit_set.proofs.DigitLaws.{all-lowest}
 use Rattle.bit_set.proofs.PartLaws.{has-within, has-from}
 use Rattle.resolution.specs.Resolution.{is-blocking}
-use Rattle.resolution.proofs.Levels.{opposite-is}
 use Rattle.literals.specs.Occurrences.{occurs, Occurrences}
 
 -- what passes a test in one list is in the other, and passes its test

@@ -15,16 +15,15 @@ use lib.Dec.{eqb}
 use borrow.Author.Tests.{eqb-true, eq-eqb, ne-eqb}
 use Rattle.formula.specs.Formula.{variable, member, unordered, rising, _∈_}
 use Rattle.formula.proofs.SomeLaws.{same-truth, some-of-append}
-use Rattle.formula.proofs.OrderLaws.{ordered-ascends, rising-member, rising-ascends}
+use Rattle.formula.proofs.OrderLaws.{ordered-ascends, ordered-one-of-each, rising-member, rising-ascends}
 use Rattle.formula.proofs.Membership.{member-iff, not-member-iff}
 use Rattle.bit_set.specs.BitSet.{has, mask}
 use Rattle.bit_set.proofs.BitSetLaws.{has-mask, has-iff, same-mask-iff, mask-small}
 use Rattle.bit_set.proofs.DigitLaws.{same-digits, shifted-single}
 use Rattle.bit_set.proofs.PartLaws.{has-union, has-within, has-highest, has-part, has-past}
 use Rattle.resolution.specs.Resolution.{level, remainder, Resolves, is-resolvent}
-use Rattle.resolution.proofs.Levels.{opposite-is, level-above, level-least}
+use Rattle.resolution.proofs.Levels.{level-above, level-least}
 use Rattle.resolution.proofs.Others.{remainder-iff}
-use Rattle.resolution.proofs.Derivations.{ordered-non-tautological}
 use Rattle.resolution.proofs.Check.{resolves-iff}
 
 -- The level of a set, by its length in digits
@@ -99,7 +98,7 @@ module _ (v j : ℕ) (sign : j < 2) (x : List ℕ) (small : mask x < 2 ^ 64) whe
       alone : 2 * v + j ∈ x → ((l : ℕ) → l ∈ x → variable l ≤ v) → (i : ℕ) → Dec (j ≡ i) → member (2 * v + i) x ≡ eqb j i
       alone own last i (yes e) = member-iff (2 * v + i) x .1 (Memᴰ·cast (omega arith) own) ∙ sym (eq-eqb j i e)
       alone own last i (no n) =
-          not-member-iff (2 * v + i) x .1 (λ m. ordered-non-tautological x ordered (2 * v + j) own (Memᴰ·cast (omega (arith, opposite-is (2 * v + j), last (2 * v + i) m)) m))
+          not-member-iff (2 * v + i) x .1 (λ m. n (omega (arith, ordered-one-of-each x ordered (2 * v + j) (2 * v + i) own m (omega (arith, last (2 * v + i) m)))))
           ∙ sym (ne-eqb j i n)
 
 -- the test of s and t, the parents' sets, and of c

@@ -3,44 +3,27 @@
 use Prim.Native.Nat.{ℕ, zero, suc, _≤_, _<_}
 use native.Mathlib.Nat.{le-refl, not-suc-le-zero}
 use native.Mathlib.Omega.{arith}
-use mathlib.Core.Path.{_≡_, sym, ap, _∙_}
+use mathlib.Core.Path.{_≡_}
 use mathlib.Core.Bool.{false}
-use mathlib.Core.List.{List, [], _∷_, List·Memᴰ·head, List·Memᴰ·tail}
+use mathlib.Core.List.{List, []}
 use mathlib.Core.Option.{none, some}
 use lib.ListN.{length}
-use borrow.Author.Tests.{eqb-false}
-use Rattle.formula.specs.Formula.{variable, some-of, is-of, repeats, unordered, _∈_}
+use Rattle.formula.specs.Formula.{some-of, repeats, unordered}
 use Rattle.formula.specs.Quantifier.{Quantifier}
-use Rattle.formula.proofs.SomeLaws.{or-false}
-use Rattle.formula.proofs.OrderLaws.{ordered-no-repeats}
+use Rattle.formula.proofs.OrderLaws.{one-of-each-iff, one-of-a-variable, ordered-one-of-each}
 use Rattle.formula.proofs.Membership.{none-of, getD-in}
 use Rattle.resolution.specs.Resolution.{Annotated, NonTautological, Derivable, R1, R2, R3, Line, derived, line-at, Names, clause, line}
 use Rattle.resolution.specs.Resolution.{Follows, by-R2, by-R3, lookup, judge, judge-lines}
 use Rattle.resolution.specs.Claims.{Sound, ClosesWithFigure}
-use Rattle.resolution.proofs.Levels.{opposite-is}
 use Rattle.resolution.proofs.Check.{lookup-names, judge-iff, judge-lines-iff, closing-iff}
 use Rattle.resolution.proofs.Soundness.{derivable-sound, derivable-empty}
 
-module _ (x : ℕ) (xs : List ℕ) (e : repeats (x ∷ xs) ≡ false) where
-  repeats-parts : (some-of (is-of (variable x)) xs ≡ false) × (repeats xs ≡ false)
-  unfolding repeats
-  repeats-parts = or-false (some-of (is-of (variable x)) xs) (repeats xs) e
-
-  first-alone : {k : ℕ} → k ∈ xs → variable x ≡ variable k → ⊥
-  first-alone {k} m = eqb-false (variable x) (variable k) (none-of (is-of (variable x)) (repeats-parts .0) m)
-
-one-of-a-variable : {l k : ℕ} {c : List ℕ} → repeats c ≡ false → l ∈ c → k ∈ c → variable l ≡ variable k → l ≡ k
-one-of-a-variable e (List·Memᴰ·head p) (List·Memᴰ·head q) v = p ∙ sym q
-one-of-a-variable e (List·Memᴰ·head {x = x} {xs = xs} p) (List·Memᴰ·tail m) v = absurd (first-alone x xs e m (ap variable (sym p) ∙ v))
-one-of-a-variable e (List·Memᴰ·tail {x = x} {xs = xs} m) (List·Memᴰ·head q) v = absurd (first-alone x xs e m (ap variable (sym q) ∙ sym v))
-one-of-a-variable e (List·Memᴰ·tail {x = x} {xs = xs} m) (List·Memᴰ·tail n) v = one-of-a-variable (repeats-parts x xs e .1) m n v
-
 no-repeats-non-tautological : (c : List ℕ) → repeats c ≡ false → NonTautological c
-no-repeats-non-tautological c e l m n = let (same, other) = opposite-is l in let is = one-of-a-variable e m n (sym same) in omega arith
+no-repeats-non-tautological c e = one-of-each-iff c .0 (λ l k. one-of-a-variable e)
 
 -- so where its variables rise
 pub ordered-non-tautological : (c : List ℕ) → unordered c ≡ false → NonTautological c
-ordered-non-tautological c e = no-repeats-non-tautological c (ordered-no-repeats c e)
+ordered-non-tautological c e = one-of-each-iff c .0 (ordered-one-of-each c e)
 
 module _ (φ : List (List ℕ)) (qs : List Quantifier) (lines : List Line)
     (φ-no-repeats : some-of repeats φ ≡ false) (lines-no-repeats : some-of (λ l. repeats (derived l .literals)) lines ≡ false) where

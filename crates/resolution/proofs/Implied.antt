@@ -3,7 +3,6 @@
 -- clause d of the formula: a literal of d that is true under it has its opposite in c. Assumes that c is in range, and
 -- that neither c nor a clause of the formula is a tautology.
 use Prim.Native.Nat.{ℕ, zero, suc, _%_, _<_}
-use native.Mathlib.Decide.{ℕ-discrete}
 use native.Mathlib.Omega.{arith}
 use mathlib.Core.Path.{_≡_, refl, sym, ap, _∙_}
 use mathlib.Core.Logic.{_↔_, _≢_, ⊎-elim}
@@ -16,9 +15,9 @@ use Rattle.formula.specs.Formula.{variable, opposite, is-of, clause-status, out
 use Rattle.formula.specs.Nodes.{TrueLiteral, FalseLiteral, Every}
 use Rattle.formula.proofs.NodesLaws.{clause-is-falsified, satisfied-iff-met}
 use Rattle.formula.proofs.Membership.{all-of-iff, some-of-iff, in-range-iff, member-iff}
+use Rattle.formula.proofs.OrderLaws.{opposite-is, one-of-each-iff}
 use Rattle.resolution.specs.Resolution.{NonTautological, is-blocking}
 use Rattle.resolution.specs.Claims.{Implied}
-use Rattle.resolution.proofs.Levels.{opposite-is}
 use Rattle.resolution.proofs.Soundness.{opposed-satisfied}
 
 -- the assignment of f 0, f 1, .. to the first n variables
@@ -71,11 +70,7 @@ first-of d {l} (List·Memᴰ·tail {x = k} {xs = c} m) = go (is-of (variable l) 
 
 -- two literals of one variable in a clause have the same sign
 same-sign : {c : List ℕ} → NonTautological c → {l k : ℕ} → l ∈ c → k ∈ c → variable k ≡ variable l → k % 2 ≡ l % 2
-same-sign non-taut {l} {k} m n same = go (ℕ-discrete (k % 2) (l % 2))
-  where
-    go : Dec (k % 2 ≡ l % 2) → k % 2 ≡ l % 2
-    go (yes e) = e
-    go (no e) = absurd (non-taut l m (Memᴰ·cast (omega (arith, opposite-is l)) n))
+same-sign {c} non-taut {l} {k} m n same = ap (_% 2) (one-of-each-iff c .1 non-taut k l n m same)
 
 module _ (n : ℕ) (φ : List (List ℕ)) (c : List ℕ) (in-range : out-of-range n c ≡ false)
     (non-taut : NonTautological c) (φ-non-taut : Every NonTautological φ) where

@@ -1,32 +1,19 @@
 -- The levels of a resolvent and of its parents. Assumes nothing.
-use Prim.Native.Nat.{ℕ, suc, _+_, _*_, _-_, _%_, _≤_, _<_, zero-le}
+use Prim.Native.Nat.{ℕ, suc, _+_, _*_, _≤_, _<_, zero-le}
 use native.Mathlib.Omega.{arith}
 use mathlib.Core.Path.{_≡_, refl, sym, ap, _∙_}
 use mathlib.Core.Logic.{inl, inr, ⊎-elim, _≢_}
-use mathlib.Core.Bool.{Bool, true, false, cond}
-use mathlib.Core.List.{List, [], _∷_, _++_, List·Memᴰ·head, List·Memᴰ·tail, Memᴰ·cast}
+use mathlib.Core.Bool.{false}
+use mathlib.Core.List.{List, [], _∷_, _++_, List·Memᴰ·head, List·Memᴰ·tail}
 use lib.ListN.{length, take, drop, take-append-drop}
 use lib.Seq.{drop-append-le, length-take-le}
 use lib.Arith.{lt-of-le-ne}
-use lib.Dec.{eqb}
-use borrow.Author.Tests.{eqb-true, eqb-false}
-use Rattle.formula.specs.Formula.{variable, opposite, out-of-range, _∈_}
+use Rattle.formula.specs.Formula.{variable, out-of-range, _∈_}
 use Rattle.formula.specs.Quantifier.{Quantifier}
 use Rattle.formula.proofs.Membership.{in-range-iff}
+use Rattle.formula.proofs.OrderLaws.{one-of-each-iff}
 use Rattle.resolution.specs.Resolution.{level, NonTautological, Resolves}
 use Rattle.resolution.proofs.Others.{resolves-others}
-
--- the opposite of k has its variable and the other sign
-pub opposite-is : (k : ℕ) → (variable (opposite k) ≡ variable k) × (opposite k % 2 + k % 2 ≡ 1)
-opposite-is k = go (eqb (k % 2) 0) refl
-  where
-    go : (even : Bool) → eqb (k % 2) 0 ≡ even
-        → (variable (cond even (k + 1) (k - 1)) ≡ variable k) × (cond even (k + 1) (k - 1) % 2 + k % 2 ≡ 1)
-    go true h = omega (arith, eqb-true (k % 2) 0 h)
-    go false h = omega (arith, eqb-false (k % 2) 0 h)
-
-pub opposite-twice : (k : ℕ) → opposite (opposite k) ≡ k
-opposite-twice k = omega (arith, opposite-is k, opposite-is (opposite k))
 
 pub level-above : {l : ℕ} {c : List ℕ} → l ∈ c → variable l < level c
 unfolding level
@@ -59,8 +46,8 @@ pub parent-level : {v k : ℕ} {s c : List ℕ} → Parent v k s c → level s �
 parent-level {v} {s} r = omega (arith, r .of, level-above (r .holds), level-least (suc v) s (λ l m. omega (arith, r .last l m)))
 
 others-before : {v k : ℕ} {s c : List ℕ} → Parent v k s c → NonTautological s → (l : ℕ) → (l ∈ s) × (l ≢ k) → variable l < v
-others-before {k} r non-taut l (m, n) =
-    lt-of-le-ne (r .last l m) (λ e. non-taut k (r .holds) (Memᴰ·cast (omega (arith, r .of, opposite-is k)) m))
+others-before {k} {s} r non-taut l (m, n) =
+    lt-of-le-ne (r .last l m) (λ e. n (one-of-each-iff s .1 non-taut l k m (r .holds) (e ∙ sym (r .of))))
 
 pub resolvent-level : {v : ℕ} {s t c : List ℕ} → Resolves v s t c → NonTautological s → NonTautological t → level c ≤ v
 resolvent-level {v} {c} r s-non-taut t-non-taut =

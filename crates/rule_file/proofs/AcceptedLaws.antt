@@ -6,12 +6,12 @@ use mathlib.Core.List.{List}
 use mathlib.Core.Option.{Option, none, some}
 use Prim.Native.Nat.{ℕ}
 use native.Mathlib.Omega.{arith}
-use Rattle.formula.specs.Formula.{repeats}
-use Rattle.rule_file.specs.Limits.{rule-trailer, bench-limits}
+use Rattle.formula.specs.Formula.{repeats, unordered}
+use Rattle.rule_file.specs.Limits.{rule-trailer, bench-limits, stored-limits}
 use Rattle.rule_file.specs.Walk.{first}
 use Rattle.rule_file.specs.RuleFile.{clauses}
 use Rattle.rule_file.specs.Answer.{Answer, refused, answer, refuse-if, refuse-at, and-then}
-use Rattle.rule_file.specs.Reader.{reading, read-file, read-within, read-from-3, read-from-5, read-from-6, read-from-8}
+use Rattle.rule_file.specs.Reader.{reading, read-file, read-within, read-from-3, read-from-5, read-from-6, read-from-8, asked}
 use Rattle.rule_file.specs.Accepted.{AcceptedWithin, Accepted, header}
 use Rattle.rule_file.specs.declared.limits.Limits.{Limits}
 use Rattle.rule_file.specs.declared.Header.{Header}
@@ -20,7 +20,7 @@ use Rattle.rule_file.specs.declared.Reading.{Reading}
 use Rattle.rule_file.specs.declared.Reading.the-variants as reading-variants
 use Rattle.rule_file.proofs.WalkLaws.{first-none, none-first-place}
 use Rattle.rule_file.proofs.WordsLaws.{right-length}
-use Rattle.rule_file.proofs.ReaderLaws.{check-2, check-3, check-4, check-9, ordered-once}
+use Rattle.rule_file.proofs.ReaderLaws.{check-2, check-3, check-4, check-9, asked-once, not-asked}
 
 -- an answer is no refusal
 pub answer-no-refusal : {A : Type 0} (r : Refusal) (x : A) → refused r ≡ answer x → ⊥
@@ -51,7 +51,7 @@ answered-within limits b h e =
     let (e₄, r₄) = passed _ _ _ h r₃ in
     let (e₅, r₅) = passed-at _ _ _ h r₄ in
     let (e₆, r₆) = passed-at _ _ _ h r₅ in
-    let (_, r₇) = passed-at (first repeats (clauses b)) 7 _ h r₆ in
+    let (_, r₇) = passed-at (first (asked (limits .ordered) repeats) (clauses b)) 7 _ h r₆ in
     let (e₂₃, r₂₃) = passed-at _ _ _ h r₇ in
     let (e₈, r₈) = passed-at _ _ _ h r₂₃ in
     let (e₉, r₉) = passed _ _ _ h r₈ in
@@ -81,7 +81,7 @@ within-answers limits b a =
       check-4 b .1 (a .prefix-ends),
       a .walked,
       none-first-place _ _ (a .in-range),
-      none-first-place _ _ (ordered-once _ (a .ordered)),
+      none-first-place _ _ (asked-once (limits .ordered) (clauses b) (a .ordered)),
       none-first-place _ _ (a .ordered),
       none-first-place _ _ (a .well-formed),
       check-9 b .1 (a .bounded),
@@ -95,6 +95,22 @@ answered = answered-within bench-limits
 pub accepted-answers : (b : List ℕ) → Accepted b → read-file b ≡ answer (header b)
 unfolding read-file
 accepted-answers = within-answers bench-limits
+
+-- what the bench's reader accepts, the reader of stored files does
+pub stored-accepts : (b : List ℕ) → Accepted b → AcceptedWithin stored-limits b
+stored-accepts b a =
+    record {
+      right-length = a .right-length;
+      right-count = a .right-count;
+      few-variables = a .few-variables;
+      few-clauses = a .few-clauses;
+      prefix-ends = a .prefix-ends;
+      walked = a .walked;
+      in-range = a .in-range;
+      ordered = first-none _ _ (not-asked unordered (clauses b));
+      well-formed = a .well-formed;
+      bounded = a .bounded;
+    }
 
 -- what the reader answered, for a caller that goes by the case of it
 module _ (b : List ℕ) (r : Reading) where

@@ -3,10 +3,10 @@
 -- of masks, one clause at a time. Elements and walks in general are in WalkLaws, sets of bits in BitSetLaws. Assumes
 -- nothing.
 use mathlib.Core.Path.{_≡_, refl, sym, ap, ap₂, _∙_}
-use mathlib.Core.Bool.{Bool, true, false, _&&_, _||_, or-false, or-assoc, or-comm, and-true}
+use mathlib.Core.Bool.{Bool, true, false, _||_, or-false, or-assoc, or-comm}
 use mathlib.Core.List.{List, [], _∷_, _++_, map, map-append}
 use mathlib.Core.Option.{none}
-use Prim.Native.Nat.{ℕ, zero, suc, _+_, _-_, _*_, _^_, _≤_, _<_}
+use Prim.Native.Nat.{ℕ, suc, _+_, _-_, _*_, _≤_, _<_}
 use native.Mathlib.Numerals.{add-one}
 use native.Mathlib.Omega.{arith}
 use lib.Dec.{leb, ltb, eqb}
@@ -20,11 +20,11 @@ use Rattle.bit_set.specs.BitSet.{has, including, mask-onto, mask}
 use Rattle.bit_set.proofs.BitSetLaws.{has-none, has-including}
 use Rattle.rule_file.specs.Limits.{max-variables, max-clauses}
 use Rattle.rule_file.specs.Walk.{elements}
-use Rattle.rule_file.specs.Words.{word, word-count, words}
-use Rattle.rule_file.specs.Checks.{between}
+use Rattle.rule_file.specs.Words.{word, word-count}
 use Rattle.rule_file.specs.RuleFile.{clause-count, variable-count, prefix-start, after-clause, clause-at, clause-start, clauses-from, clauses}
 use Rattle.rule_file.specs.Reader.{clause-fits, walk-clauses}
-use Rattle.rule_file.specs.Accepted.{Accepted}
+use Rattle.rule_file.specs.Accepted.{AcceptedWithin}
+use Rattle.rule_file.specs.declared.limits.Limits.{Limits}
 use Rattle.rule_file.specs.Masks.{mask-table}
 use Rattle.rule_file.proofs.WalkLaws.{elements-length, element-is, elements-last, none-at, walked-at}
 
@@ -72,7 +72,7 @@ module _ (b : List ℕ) where
   pub clause-passes : (f : List ℕ → Bool) (count j : ℕ) → j < count → some-of f (clauses-from b count 0) ≡ false → f (clause-at b (clause-start b j)) ≡ false
   clause-passes f count j h e = none-at (after-clause b) (clause-at b) f count 0 j h e
 
-  module _ (a : Accepted b) (j : ℕ) (h : j < clause-count b) where
+  module _ {limits : Limits} (a : AcceptedWithin limits b) (j : ℕ) (h : j < clause-count b) where
     pub accepted-clause : Fits b (variable-count b) (prefix-start b) (clause-start b j)
     accepted-clause = walked-clause (variable-count b) (prefix-start b) (clause-count b) (a .walked) j h
 
@@ -83,18 +83,6 @@ module _ (b : List ℕ) where
     clause-in-range = clause-passes (out-of-range (variable-count b)) (clause-count b) j h (a .in-range)
 
 -- Literals in range
-
--- a word is under 2^32, and so a range up to there is open above
-module _ (b : List ℕ) (bytes : (i : ℕ) → getD b i 0 < 256) where
-  pub word-bounded : (i : ℕ) → word b i < 2 ^ 32
-  unfolding word
-  word-bounded i = omega (arith, bytes (4 * i), bytes (4 * i + 1), bytes (4 * i + 2), bytes (4 * i + 3))
-
-  pub words-from : (lo k i : ℕ) → some-of (between lo (2 ^ 32)) (words b i k) ≡ some-of (leb lo) (words b i k)
-  unfolding some-of elements
-  words-from lo zero i = refl
-  words-from lo (suc k) i =
-      ap₂ _||_ (ap (leb lo (word b i) &&_) (lt-ltb _ _ (word-bounded i)) ∙ and-true (leb lo (word b i))) (words-from lo k (i + 1))
 
 -- a clause one literal at a time, as a loop takes it: the literal l is at hand, and ys is what is left
 module _ (n : ℕ) {l : ℕ} {ls ys : List ℕ} (e : ys ≡ l ∷ ls) where

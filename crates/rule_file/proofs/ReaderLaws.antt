@@ -1,9 +1,9 @@
 -- The reader's answer, one check at a time: checks 1 to 4 and 9 with the fact that each decides, then what checks 5 to
 -- 8 speak of by the counts that a Trailer holds, and 6, 7 and 23 at once. What the checks over clauses and variables
 -- say is in ClauseLaws and PrefixLaws. Assumes nothing.
-use mathlib.Core.Path.{_≡_, sym, ap, _∙_}
-use mathlib.Core.Bool.{false}
-use mathlib.Core.List.{List}
+use mathlib.Core.Path.{_≡_, refl, sym, ap, _∙_}
+use mathlib.Core.Bool.{Bool, true, false}
+use mathlib.Core.List.{List, [], _∷_}
 use mathlib.Core.Option.{Option, none, some}
 use Prim.Native.Nat.{ℕ, _+_, _-_, _*_, _≤_}
 use borrow.Author.Tests.{le-ltb, ltb-false}
@@ -15,10 +15,11 @@ use Rattle.rule_file.specs.Limits.{max-clauses, max-whole}
 use Rattle.rule_file.specs.Walk.{first}
 use Rattle.rule_file.specs.Words.{word-count, stated-count}
 use Rattle.rule_file.specs.RuleFile.{clause-count, variable-count, prefix-start, clauses, clauses-from, prefix, prefix-from, whole}
+use Rattle.rule_file.specs.Answer.{refuse-at}
 use Rattle.rule_file.specs.Checks.{place, clause-fails, Trailer}
 use Rattle.rule_file.specs.declared.Found.{Found}
 use Rattle.rule_file.specs.declared.Found.the-variants as found-variants
-use Rattle.rule_file.specs.Reader.{wrong-count, too-many, wrong-prefix, too-large, walk-clauses, malformed}
+use Rattle.rule_file.specs.Reader.{wrong-count, too-many, wrong-prefix, too-large, walk-clauses, malformed, asked, read-from-6, read-from-8}
 use Rattle.rule_file.proofs.WalkLaws.{first-none, none-first-place, first-either}
 use Rattle.rule_file.proofs.WordsLaws.{Decides, differs}
 
@@ -69,13 +70,41 @@ module _ (b : List ℕ) (m n start : ℕ) (t : Trailer b m n start) where
 pub ordered-once : (φ : List (List ℕ)) → some-of unordered φ ≡ false → some-of repeats φ ≡ false
 ordered-once = none-implied unordered repeats ordered-no-repeats
 
--- 6, 7 and 23 at once: where no clause is ill-formed all three pass
+-- so where order is asked
+pub asked-once : (ordered : Bool) (φ : List (List ℕ)) → some-of (asked ordered unordered) φ ≡ false → some-of (asked ordered repeats) φ ≡ false
+asked-once true φ e = ordered-once φ e
+asked-once false φ e = e
+
+-- a check that is not asked finds nothing
+pub not-asked : (f : List ℕ → Bool) (φ : List (List ℕ)) → first (asked false f) φ ≡ none
+unfolding first
+not-asked f [] = refl
+not-asked f (c ∷ φ) = rw (not-asked f φ)
+
+-- and one that finds nothing finds nothing where it is not asked
+pub asked-none : (ordered : Bool) (f : List ℕ → Bool) (φ : List (List ℕ)) → first f φ ≡ none → first (asked ordered f) φ ≡ none
+asked-none true f φ e = e
+asked-none false f φ e = not-asked f φ
+
+-- past 6, where neither 7 nor 23 is asked
+pub past-range : (b : List ℕ) → first (out-of-range (variable-count b)) (clauses b) ≡ none → read-from-6 false b ≡ read-from-8 b
+unfolding read-from-6
+past-range b six =
+    ap (λ o. refuse-at o 6 (refuse-at (first (asked false repeats) (clauses b)) 7 (refuse-at (first (asked false unordered) (clauses b)) 23 (read-from-8 b)))) six
+    ∙ ap (λ o. refuse-at o 7 (refuse-at (first (asked false unordered) (clauses b)) 23 (read-from-8 b))) (not-asked repeats (clauses b))
+    ∙ ap (λ o. refuse-at o 23 (read-from-8 b)) (not-asked unordered (clauses b))
+
+-- 6, 7 and 23 at once: where no clause is ill-formed each is in order, and all three pass
 module _ (n : ℕ) (φ : List (List ℕ)) where
+  pub well-formed-ordered : some-of (ill-formed n) φ ≡ false → some-of unordered φ ≡ false
+  unfolding ill-formed
+  well-formed-ordered = none-implied (ill-formed n) unordered (λ c f. or-false (out-of-range n c) (unordered c) f .1) φ
+
   pub well-formed-pass : first (ill-formed n) φ ≡ none → (first (out-of-range n) φ ≡ none) × (first repeats φ ≡ none) × (first unordered φ ≡ none)
   unfolding ill-formed
   well-formed-pass e =
       let none-fails = first-none (ill-formed n) φ e in
-      let ordered = none-implied (ill-formed n) unordered (λ c f. or-false (out-of-range n c) (unordered c) f .1) φ none-fails in (
+      let ordered = well-formed-ordered none-fails in (
         none-first-place (out-of-range n) φ (none-implied (ill-formed n) (out-of-range n) (λ c f. or-false (out-of-range n c) (unordered c) f .0) φ none-fails),
         none-first-place repeats φ (ordered-once φ ordered),
         none-first-place unordered φ ordered,

@@ -46,7 +46,7 @@ module _ (k l : Limits) (tighter : Tighter k l) (b : List ℕ) where
   unfolding read-within read-from-3
   same-within w =
       let few = w .few-variables in
-      rw (same-lengths (w .few-bytes), same-count (k .variables) (l .variables) b few (le-trans few (tighter .variables)))
+      rw (same-lengths (w .few-bytes), same-count (k .variables) (l .variables) b few (le-trans few (tighter .variables)), tighter .ordered)
 
   -- a file that is too long is refused by 1, whatever else is wrong
   refused-by-1 : k .bytes < length b → read-within k b ≡ refused (Alone 1)
@@ -92,7 +92,7 @@ module _ (k l : Limits) (tighter : Tighter k l) (b : List ℕ) where
 -- The small reader beside the bench's
 
 small-is-tighter : Tighter small-limits bench-limits
-small-is-tighter = record { bytes = lit≤ tt; variables = lit≤ tt }
+small-is-tighter = record { bytes = lit≤ tt; variables = lit≤ tt; ordered = refl }
 
 module _ (b : List ℕ) where
   pub small-same : WithinLimits small-limits b → read-small b ≡ read-file b

@@ -1,18 +1,18 @@
 -- Elements that stand one after another in a file, for every `next` and `at`: how many there are, where each stands,
--- their first and last ones, one more of them, and a test that none passes; one element at a time, as a loop takes
--- them; first places, as a loop counts them; and the walk. What fits and what an element is is said by the laws of
--- clauses, of the prefix and of derivation lines. Assumes nothing.
+-- their first and last ones, some and then more of them, one more of them, and a test that none passes; one element at
+-- a time, as a loop takes them; first places, as a loop counts them; and the walk. What fits and what an element is is
+-- said by the laws of clauses, of the prefix and of derivation lines. Assumes nothing.
 use mathlib.Core.Path.{_≡_, refl, sym, ap, ap₂, _∙_}
 use mathlib.Core.Bool.{Bool, true, false, cond, _||_}
 use mathlib.Core.List.{List, [], _∷_, _++_}
 use mathlib.Core.Option.{Option, none, some, Option·some-ne-none, Option·none-ne-some, Option·some-injective}
 use Prim.Native.Nat.{ℕ, zero, suc, _+_, _-_, _≤_, _<_}
-use native.Mathlib.Nat.{not-suc-le-zero, le-of-suc-le-suc}
+use native.Mathlib.Nat.{le-refl, not-suc-le-zero, le-of-suc-le-suc}
 use native.Mathlib.Numerals.{add-one}
 use native.Mathlib.Omega.{arith}
 use lib.Dec.{eqb}
-use lib.ListN.{length, getD, take, drop}
-use borrow.Author.Tests.{eq-eqb, ne-eqb}
+use lib.ListN.{length, getD, take, drop, take-append-drop}
+use borrow.Author.Tests.{eqb-true, eq-eqb, ne-eqb}
 use Rattle.formula.specs.Formula.{some-of}
 use Rattle.formula.proofs.SomeLaws.{none-first, none-rest, none-by-places}
 use Rattle.rule_file.specs.Walk.{start, elements, later, first, walk}
@@ -35,13 +35,13 @@ module _ (next : ℕ → ℕ) where
   start-suc i j = ap (start next i) (sym (add-one j))
 
   -- what a step keeps, of the elements left and the word at hand, holds at each element
-  pub kept : (P : ℕ → ℕ → Type 0) → ((left i : ℕ) → P (suc left) i → P left (next i))
+  pub kept-along : (P : ℕ → ℕ → Type 0) → ((left i : ℕ) → P (suc left) i → P left (next i))
       → (count i j : ℕ) → j ≤ count → P count i → P (count - j) (start next i j)
   unfolding start
-  kept P keep count i zero h p = let e : count - 0 ≡ count = omega arith in rw e p
-  kept P keep count i (suc j) h p =
+  kept-along P keep count i zero h p = let e : count - 0 ≡ count = omega arith in rw e p
+  kept-along P keep count i (suc j) h p =
       let e : count - j ≡ suc (count - suc j) = omega arith in
-      keep (count - suc j) (start next i j) (rw e at (kept P keep count i j (omega arith) p))
+      keep (count - suc j) (start next i j) (rw e at (kept-along P keep count i j (omega arith) p))
 
   module _ {A : Type 0} (at : ℕ → A) where
     pub elements-length : (left i : ℕ) → length (elements next at left i) ≡ left
@@ -68,6 +68,13 @@ module _ (next : ℕ → ℕ) where
     elements-drop (suc k) (suc left) i h =
         let e : left - k ≡ suc left - suc k = omega arith in
         elements-drop k left (next i) (le-of-suc-le-suc h) ∙ ap₂ (elements next at) e (start-next i k)
+
+    -- some of them and then more
+    pub elements-add : (j k i : ℕ) → elements next at (j + k) i ≡ elements next at j i ++ elements next at k (start next i j)
+    elements-add j k i =
+        let e : j + k - j ≡ k = omega arith in
+        sym (take-append-drop j (elements next at (j + k) i))
+        ∙ ap₂ _++_ (elements-take j (j + k) i (omega arith)) (elements-drop j (j + k) i (omega arith) ∙ ap (λ n. elements next at n (start next i j)) e)
 
     -- one more is the next one, at the end
     pub elements-last : (k i : ℕ) → elements next at (suc k) i ≡ elements next at k i ++ (at (start next i k) ∷ [])
@@ -248,12 +255,22 @@ module _ (next : ℕ → ℕ) (fits : ℕ → Bool) (end : ℕ) where
   walked-rest : (left i : ℕ) → walk next fits end (suc left) i ≡ none → walk next fits end left (next i) ≡ none
   walked-rest left i e = later-none _ (sym (step-on left i (walked-fits left i e)) ∙ e)
 
-  module _ (count i : ℕ) (walked : walk next fits end count i ≡ none) (j : ℕ) where
-    walked-from : j ≤ count → walk next fits end (count - j) (start next i j) ≡ none
-    walked-from h = kept next (λ left k. walk next fits end left k ≡ none) walked-rest count i j h walked
+  module _ (count i : ℕ) (walked : walk next fits end count i ≡ none) where
+    walked-from : (j : ℕ) → j ≤ count → walk next fits end (count - j) (start next i j) ≡ none
+    walked-from j h = kept-along next (λ left k. walk next fits end left k ≡ none) walked-rest count i j h walked
 
     -- element j fits
-    pub walked-at : j < count → fits (start next i j) ≡ true
-    walked-at h =
+    pub walked-at : (j : ℕ) → j < count → fits (start next i j) ≡ true
+    walked-at j h =
         let e : count - j ≡ suc (count - (j + 1)) = omega arith in
-        walked-fits (count - (j + 1)) (start next i j) (rw e at (walked-from (omega arith)))
+        walked-fits (count - (j + 1)) (start next i j) (rw e at (walked-from j (omega arith)))
+
+    -- and the walk ends at `end`
+    pub walked-end : start next i count ≡ end
+    walked-end =
+        let over = walk-over count count (start next i count) (le-refl count) in
+        go (eqb (start next i count) end) refl (sym over ∙ walked-from count (le-refl count))
+      where
+        go : (t : Bool) → eqb (start next i count) end ≡ t → cond {A = Option ℕ} t none (some 0) ≡ none → start next i count ≡ end
+        go true e _ = eqb-true (start next i count) end e
+        go false _ w = absurd (Option·some-ne-none 0 w)

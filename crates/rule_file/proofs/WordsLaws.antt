@@ -1,7 +1,7 @@
 -- Checks that are Booleans, as facts, and so of a file's length; then words that stand one after another in a file; and
 -- a part of a file: its bytes, its length and its words. Words one at a time are WalkLaws' elements. Assumes nothing.
 use mathlib.Core.Path.{_≡_, refl, sym, ap, ap₂, _∙_}
-use mathlib.Core.Bool.{Bool, true, false, not, false≢true}
+use mathlib.Core.Bool.{Bool, true, false, not}
 use mathlib.Core.List.{List, [], _∷_, _++_}
 use Prim.Native.Nat.{ℕ, zero, suc, _+_, _-_, _*_, _≤_, _<_}
 use native.Mathlib.Nat.{add-zero}
@@ -10,11 +10,11 @@ use lib.Dec.{eqb}
 use lib.ListN.{length, take, drop, getD, length-append, length-drop}
 use lib.Seq.{length-take-le, getD-take, getD-drop, ext-getD, take-append-seam, drop-append-seam}
 use borrow.Author.Tests.{eq-eqb, eqb-true, le-ltb, ltb-false, le-leb, lt-leb, not-false}
-use Rattle.formula.proofs.SomeLaws.{or-false}
+use Rattle.formula.proofs.SomeLaws.{same-falsity, or-false}
 use Rattle.rule_file.specs.Walk.{start, elements}
 use Rattle.rule_file.specs.Words.{word, word-count, next-word, words, all-words, part, wrong-length}
 use Rattle.rule_file.specs.Accepted.{Length}
-use Rattle.rule_file.proofs.WalkLaws.{elements-length, element-is, elements-take, elements-drop}
+use Rattle.rule_file.proofs.WalkLaws.{elements-length, element-is, elements-take, elements-drop, elements-add}
 
 -- a Boolean check passes exactly where its fact holds
 abbrev pub Decides : Bool → Type 0 → Type 0
@@ -29,11 +29,7 @@ fails {t} {P} d f = go t refl
 
 -- checks of facts that follow from each other are equal
 pub decides-same : {s t : Bool} {P Q : Type 0} → Decides s P → Decides t Q → (P → Q) → (Q → P) → s ≡ t
-decides-same {s} {t} p q to from = go s refl
-  where
-    go : (x : Bool) → s ≡ x → s ≡ t
-    go true e = e ∙ sym (fails q (λ h. false≢true (sym (p .1 (from h)) ∙ e)))
-    go false e = e ∙ sym (q .1 (to (p .0 e)))
+decides-same p q to from = same-falsity (λ e. q .1 (to (p .0 e)), λ e. p .1 (from (q .0 e)))
 
 pub differs : (x y : ℕ) → Decides (not (eqb x y)) (x ≡ y)
 differs x y = (λ e. eqb-true x y (not-false _ e), λ e. ap not (eq-eqb x y e))
@@ -85,6 +81,16 @@ module _ (b : List ℕ) (i : ℕ) where
       ap₂ (words b) (sym (word-start i (length ws) ∙ e)) left
       ∙ sym (elements-drop next-word (word b) (length ws) (length (ws ++ vs)) i (simp length-append (omega arith)))
       ∙ ap (drop (length ws)) s ∙ drop-append-seam ws vs
+
+  -- words, and from word k on more words
+  pub stand-append : (ws vs : List ℕ) → Stand b i ws → (k : ℕ) → i + length ws ≡ k → Stand b k vs → Stand b i (ws ++ vs)
+  stand-append ws vs s k e t =
+      ap (words b i) (length-append ws vs) ∙ elements-add next-word (word b) (length ws) (length vs) i
+      ∙ ap₂ _++_ s (ap (λ x. words b x (length vs)) (word-start i (length ws) ∙ e) ∙ t)
+
+  -- the file's own words
+  pub words-stand : (count : ℕ) → Stand b i (words b i count)
+  words-stand count = ap (words b i) (elements-length next-word (word b) count i)
 
 -- A part of a file
 

@@ -10,7 +10,7 @@ use Rattle.formula.specs.Formula.{some-of, out-of-range, unordered}
 use Rattle.rule_file.specs.Limits.{rule-trailer, max-clauses, max-whole, bench-limits}
 use Rattle.rule_file.specs.Words.{word-count, stated-count}
 use Rattle.rule_file.specs.RuleFile.{clause-count, variable-count, prefix-start, clauses, prefix, whole}
-use Rattle.rule_file.specs.Reader.{walk-clauses, malformed}
+use Rattle.rule_file.specs.Reader.{walk-clauses, malformed, asked}
 use Rattle.rule_file.specs.declared.limits.Limits.{Limits}
 use Rattle.rule_file.specs.declared.Header.{Header}
 
@@ -20,7 +20,8 @@ pub record Length (least most : ℕ) (b : List ℕ) : Type 0 where
   pub at-least : least ≤ length b
   pub at-most : length b ≤ most
 
--- 7 leaves nothing besides: where variables rise, none stands twice
+-- 7 leaves nothing besides: where variables rise, none stands twice. Nothing is left of 7 and 23 where they are not
+-- asked
 pub record AcceptedWithin (limits : Limits) (b : List ℕ) : Type 0 where
   pub right-length : Length rule-trailer (limits .bytes) b
   pub right-count : stated-count b ≡ word-count b
@@ -29,7 +30,7 @@ pub record AcceptedWithin (limits : Limits) (b : List ℕ) : Type 0 where
   pub prefix-ends : prefix-start b + 2 * variable-count b ≡ word-count b - 4
   pub walked : walk-clauses b (variable-count b) (prefix-start b) (clause-count b) 0 ≡ none
   pub in-range : some-of (out-of-range (variable-count b)) (clauses b) ≡ false
-  pub ordered : some-of unordered (clauses b) ≡ false
+  pub ordered : some-of (asked (limits .ordered) unordered) (clauses b) ≡ false
   pub well-formed : some-of malformed (prefix b) ≡ false
   pub bounded : whole b ≤ max-whole
 

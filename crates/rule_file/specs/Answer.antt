@@ -1,8 +1,10 @@
 -- What an operation answers: a refusal, with its number and, where the documents name one, the place: a clause, a
--- variable or a line; or the values. Assumes nothing.
+-- variable or a line; or the values; and what a lent buffer then holds. Assumes nothing.
 use Prim.Native.Nat.{ℕ}
 use mathlib.Core.Bool.{Bool, true, false}
+use mathlib.Core.List.{List, _++_}
 use mathlib.Core.Option.{Option, none, some}
+use lib.ListN.{length, drop}
 use Rattle.rule_file.specs.declared.Refusal.{Refusal}
 use Rattle.rule_file.specs.declared.Refusal.the-variants as refusal
 
@@ -33,3 +35,9 @@ number-of (refusal.At k i) = k
 abbrev pub place-of : Refusal → Option ℕ
 place-of (refusal.Alone k) = none
 place-of (refusal.At k i) = some i
+
+-- a buffer that is lent to an operation whose values are the bytes of a file: a refusal leaves it as it was, and so are
+-- the bytes past the file's end
+abbrev pub buffer-after : Answer (List ℕ) → List ℕ → List ℕ
+buffer-after (refused r) before = before
+buffer-after (answer d) before = d ++ drop (length d) before

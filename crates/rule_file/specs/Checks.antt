@@ -1,10 +1,10 @@
 -- How the reader's functions test and what they are given. What the code alone needs; assumes nothing.
 use mathlib.Core.Path.{_≡_}
-use mathlib.Core.Bool.{Bool, cond, _&&_}
+use mathlib.Core.Bool.{Bool, cond}
 use mathlib.Core.List.{List}
 use mathlib.Core.Option.{Option, none, some}
 use Prim.Native.Nat.{ℕ, _+_, _*_, _≤_}
-use lib.Dec.{leb, ltb, eqb}
+use lib.Dec.{eqb}
 use Rattle.formula.specs.Formula.{out-of-range, repeats, ill-formed}
 use Rattle.rule_file.specs.Limits.{max-variables}
 use Rattle.rule_file.specs.Words.{word-count}
@@ -16,10 +16,6 @@ use Rattle.rule_file.specs.declared.Found.the-variants.{Nothing, At}
 abbrev pub place : Found → Option ℕ
 place Nothing = none
 place (At i) = some i
-
--- lo ≤ w < hi
-abbrev pub between : ℕ → ℕ → ℕ → Bool
-between lo hi w = leb lo w && ltb w hi
 
 -- 6 or 7 of one clause, by the check's number; by any other number, whether it fails 6, 7 or 23
 unfoldable pub clause-fails : ℕ → ℕ → List ℕ → Bool

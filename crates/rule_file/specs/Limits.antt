@@ -1,5 +1,6 @@
--- The limits of files, each named once, and those in which the two readers of rule files differ. Assumes nothing.
+-- The limits of files, each named once, and those in which the readers of rule files differ. Assumes nothing.
 use Prim.Native.Nat.{ℕ, _^_}
+use mathlib.Core.Bool.{true, false}
 use Rattle.rule_file.specs.declared.limits.Limits.{Limits}
 
 -- the longest file, a rule file or a derivation
@@ -38,7 +39,11 @@ max-whole = 2 ^ 60
 
 -- the bench's reader, and the rack controller's small one
 abbrev pub bench-limits : Limits
-bench-limits = record { bytes = max-bytes; variables = max-variables }
+bench-limits = record { bytes = max-bytes; variables = max-variables; ordered = true }
 
 abbrev pub small-limits : Limits
-small-limits = record { bytes = small-bytes; variables = small-variables }
+small-limits = record { bytes = small-bytes; variables = small-variables; ordered = true }
+
+-- what a repair takes: a file stored before clauses had to be in order
+abbrev pub stored-limits : Limits
+stored-limits = record { bytes = max-bytes; variables = max-variables; ordered = false }

@@ -1,7 +1,7 @@
 -- The reader's answer for every file: document 01's checks 1 to 9 and document 02's 23, in the order 1 to 7, 23, 8, 9,
 -- each over the whole file before the next. 5, 6, 7 and 23 name the first clause at fault, and 8 the first variable.
--- One chain of checks for any limits on bytes and variables, and two readers: the bench's and the small one. Assumes
--- nothing.
+-- One chain of checks for any limits, and three readers: the bench's, the small one, and the one of stored files, which
+-- leaves 7 and 23 out. Assumes nothing.
 use Prim.Native.Nat.{ℕ, _+_, _-_, _*_}
 use mathlib.Core.Bool.{Bool, false, not, _&&_, _||_}
 use mathlib.Core.List.{List}
@@ -9,7 +9,7 @@ use mathlib.Core.Option.{Option}
 use lib.Dec.{leb, ltb, eqb}
 use Rattle.formula.specs.Formula.{out-of-range, repeats, unordered}
 use Rattle.formula.specs.Quantifier.{Quantifier, existential, randomized}
-use Rattle.rule_file.specs.Limits.{rule-trailer, max-clauses, max-weight, max-whole, bench-limits, small-limits}
+use Rattle.rule_file.specs.Limits.{rule-trailer, max-clauses, max-weight, max-whole, bench-limits, small-limits, stored-limits}
 use Rattle.rule_file.specs.Walk.{first, walk}
 use Rattle.rule_file.specs.Words.{word, word-count, wrong-length, stated-count}
 use Rattle.rule_file.specs.RuleFile.{clause-count, variable-count, prefix-start, after-clause, clauses, prefix, whole}
@@ -56,23 +56,30 @@ read-from-8 b =
     (refuse-if (too-large b) 9
     (answer (record { variables = variable-count b; clauses = clause-count b; prefix = prefix-start b; whole = whole b })))
 
-unfoldable pub read-from-6 : List ℕ → Answer Header
-read-from-6 b =
+-- 7 and 23 only where clauses must be in order
+abbrev pub asked : Bool → (List ℕ → Bool) → List ℕ → Bool
+asked ordered f c = ordered && f c
+
+unfoldable pub read-from-6 : Bool → List ℕ → Answer Header
+read-from-6 ordered b =
     refuse-at (first (out-of-range (variable-count b)) (clauses b)) 6
-    (refuse-at (first repeats (clauses b)) 7
-    (refuse-at (first unordered (clauses b)) 23
+    (refuse-at (first (asked ordered repeats) (clauses b)) 7
+    (refuse-at (first (asked ordered unordered) (clauses b)) 23
     (read-from-8 b)))
 
-unfoldable pub read-from-5 : List ℕ → Answer Header
-read-from-5 b = refuse-at (walk-clauses b (variable-count b) (prefix-start b) (clause-count b) 0) 5 (read-from-6 b)
+unfoldable pub read-from-5 : Bool → List ℕ → Answer Header
+read-from-5 ordered b =
+    refuse-at (walk-clauses b (variable-count b) (prefix-start b) (clause-count b) 0) 5 (read-from-6 ordered b)
 
-unfoldable pub read-from-3 : ℕ → List ℕ → Answer Header
-read-from-3 most b = refuse-if (too-many most b) 3 (refuse-if (wrong-prefix b) 4 (read-from-5 b))
+unfoldable pub read-from-3 : ℕ → Bool → List ℕ → Answer Header
+read-from-3 most ordered b = refuse-if (too-many most b) 3 (refuse-if (wrong-prefix b) 4 (read-from-5 ordered b))
 
 -- the answer within limits: n, m, the prefix's start and the whole, or a refusal
 unfoldable pub read-within : Limits → List ℕ → Answer Header
 read-within limits b =
-    refuse-if (wrong-length rule-trailer (limits .bytes) b) 1 (refuse-if (wrong-count b) 2 (read-from-3 (limits .variables) b))
+    refuse-if (wrong-length rule-trailer (limits .bytes) b) 1
+    (refuse-if (wrong-count b) 2
+    (read-from-3 (limits .variables) (limits .ordered) b))
 
 -- the bench's reader, on which every other operation stands
 unfoldable pub read-file : List ℕ → Answer Header
@@ -81,6 +88,10 @@ read-file = read-within bench-limits
 -- the small reader
 unfoldable pub read-small : List ℕ → Answer Header
 read-small = read-within small-limits
+
+-- the reader of stored files
+unfoldable pub read-stored : List ℕ → Answer Header
+read-stored = read-within stored-limits
 
 -- the documents' refusal or values for each case of what the code answers
 abbrev pub reading : Reading → Answer Header

@@ -12,10 +12,11 @@ use Rattle.rule_file.specs.declared.limits.Limits.{Limits}
 use Rattle.rule_file.specs.declared.Header.{Header}
 use Rattle.rule_file.specs.declared.Refusal.the-variants.{Alone}
 
--- no limit of k is over that of l
+-- no limit of k is over that of l, and they ask for order alike
 pub record Tighter (k l : Limits) : Type 0 where
   pub bytes : k .bytes ≤ l .bytes
   pub variables : k .variables ≤ l .variables
+  pub ordered : k .ordered ≡ l .ordered
 
 -- a file within limits, whatever else is wrong with it
 pub record WithinLimits (k : Limits) (b : List ℕ) : Type 0 where

@@ -24,8 +24,10 @@ pub const MAX_WEIGHT: u64 = 65535;
 // 2^60, the largest product of all totals.
 pub const MAX_WHOLE: u64 = 1152921504606846976;
 
-// What the two readers of rule files differ in.
+// What the readers of rule files differ in: the most bytes and variables, and whether the literals of each clause must
+// be in order.
 pub struct Limits {
     pub bytes: usize,
     pub variables: usize,
+    pub ordered: bool,
 }

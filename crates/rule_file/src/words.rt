@@ -1,9 +1,7 @@
 // The words of a file of bytes, and its parts.
 ghost use mathlib.Core.Path.{_≡_};
-ghost use Prim.Native.Nat.{_+_, _^_, _≤_, _<_};
-ghost use Rattle.formula.specs.Formula.{some-of};
-ghost use Rattle.rule_file.specs.Words.{word, word-count, words, part, wrong-length};
-ghost use Rattle.rule_file.specs.Checks.{between};
+ghost use Prim.Native.Nat.{_+_, _^_, _<_};
+ghost use Rattle.rule_file.specs.Words.{word, word-count, part, wrong-length};
 
 // The word at index i, least byte first. Four byte reads in a row compile to one load.
 pub fn word(file: &[u8], i: usize) -> usize
@@ -56,23 +54,4 @@ pub fn has_wrong_length(file: &[u8], least: usize, most: usize) -> bool
         return true;
     }
     most < length
-}
-
-// Whether some word w of the k from index i on has lo ≤ w < hi.
-pub fn some_between(file: &[u8], i: usize, k: usize, lo: usize, hi: usize) -> bool
-    requires { ⌜ i + k ≤ word-count (now file) ⌝ }
-    ensures { λ r. ⌜ r ≡ some-of (between lo hi) (words (now (file .entry)) i k) ⌝ }
-    ensures unchanged { λ _. ⌜ now (file .exit) ≡ now (file .entry) ⌝ }
-{
-    let mut at = i;
-    let mut left = k;
-    while 0 < left {
-        let w = word(file, at);
-        if lo <= w && w < hi {
-            return true;
-        }
-        at += 1;
-        left -= 1;
-    }
-    false
 }

@@ -1,13 +1,14 @@
 // Runs the stored samples. Standard input is a row of records: the operation (1 read, 2 figure, 3 verdict, 4 cut, 5
-// check, 6 clause reader, 7 derive, 8 job list, 9 tally, 10 read by the small reader), a 32-bit word; the two limits of
-// the verdict and of the tally, or the cut's level or the length of the writer's buffer and 0, two words each; the
-// lengths of the rule file and of the derivation, a word each; then the two files. A job list stands in the rule file's
-// place, and a tally's five counts, a word each, in the derivation's. Each record is answered by a line: the refusal's
-// number, with the clause, variable or line at fault where one is given, or 0 and the values. The clause reader's
-// values are the length and the literals of each clause, and `none` where no clause is left. The writer's line ends in
-// `right` if the record's derivation, or nothing, is what it wrote. The values of a job list are the number of its
-// lines, and of each line the length of the name and the limits, or `other`. A tally's line is the verdict's number
-// alone, and the counts after it.
+// check, 6 clause reader, 7 derive, 8 job list, 9 tally, 10 read by the small reader, 11 repair), a 32-bit word; the
+// two limits of the verdict and of the tally, or the cut's level or the length of the writer's or the repair's buffer
+// and 0, two words each; the lengths of the rule file and of the derivation, a word each; then the two files. A job
+// list stands in the rule file's place, and a tally's five counts, a word each, or the repaired file in the
+// derivation's. Each record is answered by a line: the refusal's number, with the clause, variable or line at fault
+// where one is given, or 0 and the values. The clause reader's values are the length and the literals of each clause,
+// and `none` where no clause is left. The writer's line and the repair's end in `right` if the record's derivation or
+// repaired file, or nothing, is what was written. The values of a job list are the number of its lines, and of each
+// line the length of the name and the limits, or `other`. A tally's line is the verdict's number alone, and the counts
+// after it.
 use bounds::Cutting;
 use bounds::cut;
 use clause_reader::cursor::Cursor;
@@ -23,6 +24,8 @@ use job_list::parse;
 use job_list::read_list;
 use libc::STDIN_FILENO;
 use libc::STDOUT_FILENO;
+use repair::Repairing;
+use repair::repair;
 use rule_file::Reading;
 use rule_file::Refusal;
 use rule_file::limits::MAX_BYTES;
@@ -47,7 +50,7 @@ ghost use Rattle.io.specs.Counts.{Counts};
 // Some bytes more than a file may have, so that the operations see what is too long.
 const ROOM: usize = MAX_BYTES + 8;
 
-// What each byte holds that is lent to the writer.
+// What each byte holds that is lent to the writer or the repair.
 const BEFORE: u8 = 90;
 
 fn put(text: &[u8]) {
@@ -200,29 +203,48 @@ fn holds<'a>(room: &'a [u8], written: &'a [u8]) -> bool {
     true
 }
 
-// Lends the writer so many bytes at the start of `room`, as far as there are.
-fn derive_to<'a>(rule: &'a [u8], capacity: usize, room: &'a mut [u8]) -> Deriving {
+// So many bytes at the start of `room`, as far as there are.
+fn lent(room: &mut [u8], capacity: usize) -> &mut [u8] {
     if room.len() < capacity {
-        return derive(rule, room);
+        return room;
     }
-    derive(rule, &mut room[..capacity])
+    &mut room[..capacity]
 }
 
-// The bytes after those that are lent are looked at too.
+// Whether the buffer holds what the record says. The bytes after those that were lent are looked at too.
+fn put_holds<'a>(room: &'a [u8; ROOM], written: &'a [u8]) {
+    if holds(room, written) {
+        put(b" right");
+    } else {
+        put(b" wrong");
+    }
+}
+
 fn put_deriving<'a>(rule: &'a [u8], capacity: usize, written: &'a [u8]) {
     let mut room = [BEFORE; ROOM];
-    match derive_to(rule, capacity, &mut room) {
+    match derive(rule, lent(&mut room, capacity)) {
         Deriving::Refused(refusal) => put_refusal(refusal),
         Deriving::Answered(length) => {
             put_number(0);
             put_value(length as u64);
         }
     }
-    if holds(&room, written) {
-        put(b" right");
-    } else {
-        put(b" wrong");
+    put_holds(&room, written);
+}
+
+fn put_repairing<'a>(rule: &'a [u8], capacity: usize, written: &'a [u8]) {
+    let mut room = [BEFORE; ROOM];
+    match repair(rule, lent(&mut room, capacity)) {
+        Repairing::Refused(refusal) => put_refusal(refusal),
+        Repairing::Repaired(counts) => {
+            put_number(0);
+            put_value(counts.bytes as u64);
+            put_value(counts.clauses as u64);
+            put_value(counts.literals as u64);
+            put_value(counts.reordered as u64);
+        }
     }
+    put_holds(&room, written);
 }
 
 // What a line of the list gives; the index behind it, which no list is long enough to wrap.
@@ -296,6 +318,7 @@ fn put_answer<'a>(operation: usize, a: u64, b: u64, rule: &'a [u8], derivation: 
         8 => put_list(rule),
         9 => put_tally(rule, a, b, derivation),
         10 => put_reading(read_small(rule)),
+        11 => put_repairing(rule, a as usize, derivation),
         _ => put(b"no operation"),
     }
     put(b"\n");

@@ -1,9 +1,9 @@
 -- Document 01's samples P1 to P12, the places that document 02 (i) adds to refusals, the derivations that (ii) writes,
--- the order that (iv) asks for, the nodes that (v) calls lost and the limits of (vii), in one list: each a question to
--- an operation, and the answer that it must give. Assumes nothing.
+-- the order that (iv) asks for, the nodes that (v) calls lost, the limits of (vii) and the repairs of (viii), in one
+-- list: each a question to an operation, and the answer that it must give. Assumes nothing.
 use mathlib.Core.List.{List, [], _∷_, _++_}
 use Prim.Native.Nat.{ℕ, _+_, _*_}
-use lib.ListN.{replicate}
+use lib.ListN.{length, replicate}
 use Rattle.buffer.specs.Bytes.{bytes-of}
 use Rattle.rule_file.specs.Answer.{Answer, refused, answer}
 use Rattle.rule_file.specs.Reader.{read-file, read-small}
@@ -16,6 +16,8 @@ use Rattle.bounds.specs.Cut.{cut-file}
 use Rattle.derivation.specs.declared.Closing.{Closing}
 use Rattle.derivation.specs.Check.{check-file}
 use Rattle.writing.specs.Derive.{derive-file}
+use Rattle.repair.specs.declared.Repairs.{Repairs}
+use Rattle.repair.specs.Repair.{repair-file, repair-answer}
 
 pub data Question : Type 0 where
   read : List ℕ → Question
@@ -25,6 +27,8 @@ pub data Question : Type 0 where
   cut : List ℕ → ℕ → Question
   check : List ℕ → List ℕ → Question
   derive : List ℕ → ℕ → Question
+  repair : List ℕ → ℕ → Question
+  repaired : List ℕ → ℕ → Question
 
 pub data Outcome : Type 0 where
   stated : Answer Header → Outcome
@@ -33,6 +37,7 @@ pub data Outcome : Type 0 where
   bounded : Answer Bounds → Outcome
   checked : Answer Closing → Outcome
   written : Answer (List ℕ) → Outcome
+  counted : Answer Repairs → Outcome
 
 -- what the operation answers, by the definition that its contract cites
 unfoldable pub ask : Question → Outcome
@@ -43,6 +48,8 @@ ask (verdict ws lo hi) = judged (verdict-file (bytes-of ws) lo hi)
 ask (cut ws level) = bounded (cut-file (bytes-of ws) level)
 ask (check ws ds) = checked (check-file (bytes-of ws) (bytes-of ds))
 ask (derive ws capacity) = written (derive-file (bytes-of ws) capacity)
+ask (repair ws capacity) = counted (repair-answer (bytes-of ws) capacity)
+ask (repaired ws capacity) = written (repair-file (bytes-of ws) capacity)
 
 -- n existential variables, and no clause
 abbrev existentials : ℕ → List ℕ
@@ -67,6 +74,18 @@ between l u o = bounded (answer (record { lower = l; upper = u; undetermined = o
 -- a refusal of number k that names the clause or variable i
 abbrev refused-at : ℕ → ℕ → Outcome
 refused-at k i = figured (refused (At k i))
+
+-- the words of m clauses, over a draw 3:1, a choice and a draw 7:3
+abbrev over-three : ℕ → List ℕ → List ℕ
+over-three m ws = ws ++ (3 ∷ 1 ∷ 0 ∷ 0 ∷ 7 ∷ 3 ∷ m ∷ 3 ∷ length ws ∷ (length ws + 10) ∷ [])
+
+-- a file of these words
+abbrev written-as : List ℕ → Outcome
+written-as ws = written (answer (bytes-of ws))
+
+-- the repaired file's length in bytes, clauses dropped, literals dropped and clauses reordered
+abbrev counts : ℕ → ℕ → ℕ → ℕ → Outcome
+counts n c l r = counted (answer (record { bytes = n; clauses = c; literals = l; reordered = r }))
 
 pub record Sample : Type 0 where
   pub question : Question
@@ -166,4 +185,25 @@ samples =
     sample (read-by-small (noughts 1024)) (stated (refused (Alone 2))) ∷
     sample (read-by-small (noughts 1025)) (stated (refused (Alone 1))) ∷
     sample (read (noughts 1025)) (stated (refused (Alone 2))) ∷
+    -- a repair of {4, 0, 4}: a literal dropped and the others put in order; 25 for a buffer shorter than the file by a
+    -- byte, although what is written would fit
+    sample (repair (over-three 1 (3 ∷ 4 ∷ 0 ∷ 4 ∷ [])) 56) (counts 52 0 1 1) ∷
+    sample (repaired (over-three 1 (3 ∷ 4 ∷ 0 ∷ 4 ∷ [])) 56) (written-as (over-three 1 (2 ∷ 0 ∷ 4 ∷ []))) ∷
+    sample (repaired (over-three 1 (3 ∷ 4 ∷ 0 ∷ 4 ∷ [])) 55) (written (refused (Alone 25))) ∷
+    -- {0, 4, 0} and {2, 2} rise without the later repeats
+    sample (repair (over-three 2 (3 ∷ 0 ∷ 4 ∷ 0 ∷ 2 ∷ 2 ∷ 2 ∷ [])) 68) (counts 60 0 2 0) ∷
+    sample (repaired (over-three 2 (3 ∷ 0 ∷ 4 ∷ 0 ∷ 2 ∷ 2 ∷ 2 ∷ [])) 68) (written-as (over-three 2 (2 ∷ 0 ∷ 4 ∷ 1 ∷ 2 ∷ []))) ∷
+    -- {0, 1, 0} and {0, 1}, all that there are, are dropped, and the repeat with its clause
+    sample (repair (over-three 2 (3 ∷ 0 ∷ 1 ∷ 0 ∷ 2 ∷ 0 ∷ 1 ∷ [])) 68) (counts 40 2 0 0) ∷
+    sample (repaired (over-three 2 (3 ∷ 0 ∷ 1 ∷ 0 ∷ 2 ∷ 0 ∷ 1 ∷ [])) 68) (written-as (over-three 0 [])) ∷
+    -- what the reader refuses with 7 and 23, and an accepted file, which stays as it is
+    sample (repair variable-twice 52) (counts 40 1 0 0) ∷
+    sample (repaired variable-twice 52) (written-as (1 ∷ 0 ∷ 0 ∷ 0 ∷ 0 ∷ 0 ∷ 1 ∷ 2 ∷ 2 ∷ 10 ∷ [])) ∷
+    sample (repair not-rising 52) (counts 52 0 0 1) ∷
+    sample (repaired not-rising 52) (written-as (1 ∷ 0 ∷ 2 ∷ 0 ∷ 2 ∷ 0 ∷ 0 ∷ 0 ∷ 0 ∷ 2 ∷ 2 ∷ 5 ∷ 13 ∷ [])) ∷
+    sample (repair example 72) (counts 72 0 0 0) ∷
+    sample (repaired example 72) (written-as example) ∷
+    -- still 5 for {0, 0} over one variable; 6 before 25
+    sample (repair (2 ∷ 0 ∷ 0 ∷ 0 ∷ 0 ∷ 1 ∷ 1 ∷ 3 ∷ 9 ∷ []) 36) (counted (refused (At 5 0))) ∷
+    sample (repair (over-three 1 (1 ∷ 6 ∷ [])) 0) (counted (refused (At 6 0))) ∷
     []

@@ -10,6 +10,7 @@ use Rattle.value.specs.declared.Ratio.{Ratio}
 use Rattle.value.specs.Value.{Verdict, above, below, within}
 use Rattle.bounds.specs.declared.Bounds.{Bounds}
 use Rattle.derivation.specs.declared.Closing.{Closing}
+use Rattle.repair.specs.declared.Repairs.{Repairs}
 
 -- 0 for an answer, else the refusal's number
 abbrev pub code : {A : Type 0} → Answer A → ℕ
@@ -44,3 +45,6 @@ closing-values x = x .value ∷ x .whole ∷ 0 ∷ 0 ∷ []
 
 abbrev pub length-values : ℕ → List ℕ
 length-values n = n ∷ 0 ∷ 0 ∷ 0 ∷ []
+
+abbrev pub repair-values : Repairs → List ℕ
+repair-values x = x .bytes ∷ x .clauses ∷ x .literals ∷ x .reordered ∷ []

@@ -4,6 +4,8 @@ use bounds::Cutting;
 use bounds::cut;
 use derivation::Checking;
 use derivation::check;
+use repair::Repairing;
+use repair::repair;
 use rule_file::Reading;
 use rule_file::Refusal;
 use rule_file::read;
@@ -22,14 +24,15 @@ ghost use mathlib.Core.Path.{_≡_};
 ghost use lib.ListN.{length};
 ghost use lib.Seq.{sets};
 ghost use mathlib.Core.List.{[], _∷_};
-ghost use Rattle.rule_file.specs.Answer.{number-of, place-of};
+ghost use Rattle.rule_file.specs.Answer.{number-of, place-of, buffer-after};
 ghost use Rattle.rule_file.specs.Reader.{reading, read-file, read-small};
 ghost use Rattle.value.specs.Value.{judging, figure-file, verdict-file};
 ghost use Rattle.bounds.specs.Cut.{cut-file};
 ghost use Rattle.derivation.specs.Check.{check-file};
-ghost use Rattle.writing.specs.Derive.{derive-file, length-of, buffer-after};
+ghost use Rattle.writing.specs.Derive.{derive-file, length-of};
+ghost use Rattle.repair.specs.Repair.{repair-file, repair-answer};
 ghost use Rattle.tally.specs.Tally.{kind-of, step};
-ghost use Rattle.ssat_c.specs.Interface.{code, placed, filled, header-values, ratio-values, verdict-values, bounds-values, closing-values, length-values};
+ghost use Rattle.ssat_c.specs.Interface.{code, placed, filled, header-values, ratio-values, verdict-values, bounds-values, closing-values, length-values, repair-values};
 
 // An answer fills out and returns 0.
 fn fill(out: &mut [u64; 4], a: u64, b: u64, c: u64, d: u64) -> u32
@@ -203,5 +206,25 @@ pub extern "C" fn ssat_derive(rule: &[u8], buffer: &mut [u8], out: &mut [u64; 4]
     match derive(rule, buffer) {
         Deriving::Refused(refusal) => refuse(out, refusal),
         Deriving::Answered(length) => fill(out, length as u64, 0, 0, 0),
+    }
+}
+
+// The repaired file's length in bytes, clauses dropped, literals dropped, clauses reordered.
+#[no_mangle]
+pub extern "C" fn ssat_repair(rule: &[u8], buffer: &mut [u8], out: &mut [u64; 4]) -> u32
+    ensures returned { λ r. ⌜ r ≡ code (repair-answer (now (rule .entry)) (length (now (buffer .entry)))) ⌝ }
+    ensures stored { λ _. ⌜ now (out .exit) ≡ filled repair-values (repair-answer (now (rule .entry)) (length (now (buffer .entry)))) (now (out .entry)) ⌝ }
+    ensures written { λ _. ⌜ now (buffer .exit) ≡ buffer-after (repair-file (now (rule .entry)) (length (now (buffer .entry)))) (now (buffer .entry)) ⌝ }
+    ensures unchanged { λ _. ⌜ now (rule .exit) ≡ now (rule .entry) ⌝ }
+{
+    match repair(rule, buffer) {
+        Repairing::Refused(refusal) => refuse(out, refusal),
+        Repairing::Repaired(x) => fill(
+            out,
+            x.bytes as u64,
+            x.clauses as u64,
+            x.literals as u64,
+            x.reordered as u64,
+        ),
     }
 }

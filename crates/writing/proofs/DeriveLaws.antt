@@ -9,13 +9,13 @@ use borrow.Author.Tests.{le-ltb, ltb-false}
 use Rattle.formula.proofs.SomeLaws.{or-false}
 use Rattle.buffer.specs.Text.{Put}
 use Rattle.rule_file.specs.Limits.{max-bytes, max-lines}
-use Rattle.rule_file.specs.Answer.{Answer, refused, answer, refuse-if}
+use Rattle.rule_file.specs.Answer.{Answer, refused, answer, refuse-if, buffer-after}
 use Rattle.rule_file.specs.Reader.{read-file}
 use Rattle.rule_file.specs.Accepted.{Accepted}
 use Rattle.rule_file.specs.declared.Refusal.{Refusal}
 use Rattle.rule_file.proofs.WordsLaws.{Decides}
 use Rattle.rule_file.proofs.AcceptedLaws.{answer-no-refusal, passed, passed-then, answered}
-use Rattle.writing.specs.Derive.{written-for, derivation-for, too-long, derive-file, length-of, buffer-after}
+use Rattle.writing.specs.Derive.{written-for, derivation-for, too-long, derive-file, length-of}
 
 -- the derivation is within the lent buffer, 65,536 bytes and 1,024 lines
 pub record Short (b : List ℕ) (capacity : ℕ) : Type 0 where

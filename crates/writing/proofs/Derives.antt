@@ -22,7 +22,8 @@ use Rattle.derivation.specs.WellFormed.{WellFormed}
 use Rattle.derivation.specs.Derives.{Derives}
 use Rattle.writing.specs.File.{derivation-bytes}
 use Rattle.writing.proofs.Leaving.{Clause, Proved}
-use Rattle.writing.proofs.FileLaws.{Small, small-nil, small-cons, added, LineFits, ReadsAs, file-back}
+use Rattle.word_writer.proofs.WordsBack.{FitWords, fit-nil, fit-cons}
+use Rattle.writing.proofs.FileLaws.{added, LineFits, ReadsAs, file-back}
 
 module _ (b : List ℕ) (a : Accepted b) where
   -- a clause: its literals are under 2n, and its value is at most the whole
@@ -30,7 +31,7 @@ module _ (b : List ℕ) (a : Accepted b) where
     in-range : out-of-range (variable-count b) (c .literals) ≡ false
     in-range = rw (prefix-length b) at (k .in-range)
 
-    literals-small : Small (c .literals)
+    literals-small : FitWords (c .literals)
     literals-small l m = omega (arith, in-range-iff (variable-count b) (c .literals) .0 in-range l m, a .few-variables)
 
     value-small : c .value < 2 ^ 64
@@ -43,11 +44,11 @@ module _ (b : List ℕ) (a : Accepted b) where
     reference-small h (clause i lt) = omega (arith, clauses-length b, a .few-clauses)
     reference-small h (line i lt) = omega arith
 
-    added-small : {k : ℕ} {l : Line} → k ≤ max-lines → Follows (clauses b) (prefix b) ls k l → Small (added l)
-    added-small h (by-R2 p) = small-nil
+    added-small : {k : ℕ} {l : Line} → k ≤ max-lines → Follows (clauses b) (prefix b) ls k l → FitWords (added l)
+    added-small h (by-R2 p) = fit-nil
     added-small h (by-R3 s t r) =
-        small-cons (omega (arith, r .quantified, prefix-length b, a .few-variables))
-        (small-cons (reference-small h s) (small-cons (reference-small h t) small-nil))
+        fit-cons (omega (arith, r .quantified, prefix-length b, a .few-variables))
+        (fit-cons (reference-small h s) (fit-cons (reference-small h t) fit-nil))
 
     module _ (proved : Proved (clauses b) (prefix b) ls) where
       line-fits : length ls ≤ max-lines → (k : ℕ) → k < length ls → LineFits (variable-count b) (line-at ls k)

@@ -1,46 +1,23 @@
--- A derivation's file as document 01 reads it: words that fit 32 bits are read back from their bytes; the words of
--- lines fit where the lines do; how long the file is; and it gives back its lines and its closing reference where they
--- fit. How lines are read where their words stand is in ReadLaws. Assumes nothing.
+-- A derivation's file as document 01 reads it: its words fit 32 bits where its lines do; how long the file is; and it
+-- gives back its lines and its closing reference where they fit. How lines are read where their words stand is in
+-- ReadLaws. Assumes nothing.
 use mathlib.Core.Path.{_≡_, sym, ap, _∙_}
-use mathlib.Core.List.{List, [], _∷_, _++_, List·Memᴰ·not-nil}
+use mathlib.Core.List.{List, [], _∷_, _++_}
 use mathlib.Core.Option.{none}
 use Prim.Native.Nat.{ℕ, suc, _+_, _-_, _*_, _^_, _≤_, _<_}
 use native.Mathlib.Omega.{arith}
 use lib.ListN.{length, getD, length-append}
-use Rattle.formula.specs.Nodes.{Every}
-use Rattle.formula.proofs.NodesLaws.{every-cons, every-append}
-use Rattle.formula.proofs.Membership.{getD-in}
-use Rattle.buffer.specs.Bytes.{bytes-of}
-use Rattle.buffer.proofs.BytesLaws.{length-bytes-of, word-back}
+use Rattle.buffer.proofs.BytesLaws.{length-bytes-of}
 use Rattle.rule_file.specs.Limits.{max-bytes, max-variables, max-lines}
 use Rattle.rule_file.specs.Words.{word, word-count, stated-count}
-use Rattle.rule_file.proofs.WordsLaws.{Stand, stand-by-places, stand-word, stand-first, stand-rest}
+use Rattle.rule_file.proofs.WordsLaws.{Stand, stand-word, stand-first, stand-rest}
+use Rattle.word_writer.proofs.WordsBack.{FitWords, fit-nil, fit-cons, fit-append, words-back}
 use Rattle.resolution.specs.Resolution.{Line, blocking, resolvent, derived, line-at}
 use Rattle.derivation.specs.DerivationFile.{trailer-start, line-count, closing-reference, lines-from, lines}
 use Rattle.derivation.specs.Check.{walk-lines}
 use Rattle.derivation.specs.WellFormed.{RightCounts}
 use Rattle.writing.specs.File.{clause-words, line-words, lines-words, derivation-words, derivation-bytes}
 use Rattle.writing.proofs.ReadLaws.{lines-back, walk-back}
-
--- Words that fit 32 bits
-
-abbrev pub Small : List ℕ → Type 0
-Small ws = Every (λ w. w < 2 ^ 32) ws
-
-pub small-nil : Small []
-small-nil w m = absurd (List·Memᴰ·not-nil m)
-
-pub small-cons : {w : ℕ} {ws : List ℕ} → w < 2 ^ 32 → Small ws → Small (w ∷ ws)
-small-cons {w} {ws} h s = every-cons (λ w. w < 2 ^ 32) w ws .0 (h, s)
-
-small-append : {ws vs : List ℕ} → Small ws → Small vs → Small (ws ++ vs)
-small-append {ws} {vs} = every-append (λ w. w < 2 ^ 32) ws vs
-
-words-back : (ws : List ℕ) → Small ws → Stand (bytes-of ws) 0 ws
-unfolding word
-words-back ws small =
-    stand-by-places (bytes-of ws) 0 ws
-    (λ i h. let e : 0 + i ≡ i = omega arith in rw e (word-back ws i h (λ k l. small (getD ws k 0) (getD-in ws k 0 l))))
 
 -- The words of lines
 
@@ -52,24 +29,24 @@ added (resolvent c v r u) = v ∷ r ∷ u ∷ []
 -- a line of at most n literals, whose literals and references fit one word and whose value fits two
 pub record LineFits (n : ℕ) (l : Line) : Type 0 where
   pub few-literals : length (derived l .literals) ≤ n
-  pub small-literals : Small (derived l .literals)
+  pub small-literals : FitWords (derived l .literals)
   pub small-value : derived l .value < 2 ^ 64
-  pub small-added : Small (added l)
+  pub small-added : FitWords (added l)
 
 module _ (n : ℕ) (few-variables : n ≤ max-variables) where
-  clause-small : (l : Line) → LineFits n l → Small (clause-words (derived l))
+  clause-small : (l : Line) → LineFits n l → FitWords (clause-words (derived l))
   clause-small l f =
-      small-cons (omega arith) (small-append (f .small-literals) (small-cons (omega arith) (small-cons (omega arith) small-nil)))
+      fit-cons (omega arith) (fit-append (f .small-literals) (fit-cons (omega arith) (fit-cons (omega arith) fit-nil)))
 
-  line-small : (l : Line) → LineFits n l → Small (line-words l)
+  line-small : (l : Line) → LineFits n l → FitWords (line-words l)
   unfolding line-words
-  line-small (blocking c) f = small-cons (omega arith) (clause-small (blocking c) f)
-  line-small (resolvent c v r u) f = small-cons (omega arith) (small-append (clause-small (resolvent c v r u) f) (f .small-added))
+  line-small (blocking c) f = fit-cons (omega arith) (clause-small (blocking c) f)
+  line-small (resolvent c v r u) f = fit-cons (omega arith) (fit-append (clause-small (resolvent c v r u) f) (f .small-added))
 
-  lines-small : (ls : List Line) → ((k : ℕ) → k < length ls → LineFits n (line-at ls k)) → Small (lines-words ls)
+  lines-small : (ls : List Line) → ((k : ℕ) → k < length ls → LineFits n (line-at ls k)) → FitWords (lines-words ls)
   unfolding lines-words
-  lines-small [] fit = small-nil
-  lines-small (l ∷ ls) fit = small-append (line-small l (fit 0 (omega arith))) (lines-small ls (λ k h. fit (suc k) (omega arith)))
+  lines-small [] fit = fit-nil
+  lines-small (l ∷ ls) fit = fit-append (line-small l (fit 0 (omega arith))) (lines-small ls (λ k h. fit (suc k) (omega arith)))
 
 -- The file
 
@@ -107,8 +84,8 @@ module _ (n : ℕ) (ls : List Line) (r : ℕ) (fits : FileFits n ls r) where
   file-stands : Stand file 0 (lines-words ls ++ trailer)
   unfolding derivation-words
   file-stands =
-      let small-trailer : Small trailer = small-cons (omega arith) (small-cons (fits .small-reference) (small-cons (omega (arith, derivation-length ls r)) small-nil)) in
-      words-back (derivation-words ls r) (small-append (lines-small n (fits .few-variables) ls (fits .lines-fit)) small-trailer)
+      let small-trailer : FitWords trailer = fit-cons (omega arith) (fit-cons (fits .small-reference) (fit-cons (omega (arith, derivation-length ls r)) fit-nil)) in
+      words-back (derivation-words ls r) (fit-append (lines-small n (fits .few-variables) ls (fits .lines-fit)) small-trailer)
 
   lines-stand : Stand file 0 (lines-words ls)
   lines-stand = stand-first file 0 (lines-words ls) trailer file-stands

@@ -14,10 +14,10 @@ use lib.ListN.{length, getD}
 use borrow.Author.Tests.{lt-leb}
 use Rattle.formula.specs.Formula.{variable, opposite, unordered, _∈_}
 use Rattle.formula.specs.Nodes.{TrueLiteral, FalseLiteral, Every}
-use Rattle.formula.proofs.OrderLaws.{OneOfEach}
+use Rattle.formula.proofs.OrderLaws.{OneOfEach, opposite-is}
 use Rattle.formula.proofs.Membership.{of-none, getD-in}
 use Rattle.resolution.specs.Resolution.{level}
-use Rattle.resolution.proofs.Levels.{opposite-is, level-above, level-least}
+use Rattle.resolution.proofs.Levels.{level-above, level-least}
 use Rattle.writing.specs.Writing.{opposites-from, opposites}
 
 -- For values of any size

@@ -7,14 +7,14 @@ use native.Mathlib.Omega.{arith}
 use lib.ListN.{length, length-append, length-drop}
 use Rattle.buffer.proofs.TextLaws.{put-at-start}
 use Rattle.rule_file.specs.RuleFile.{clauses, prefix, whole}
-use Rattle.rule_file.specs.Answer.{answer}
+use Rattle.rule_file.specs.Answer.{answer, buffer-after}
 use Rattle.rule_file.specs.Accepted.{Accepted}
 use Rattle.rule_file.proofs.PrefixLaws.{prefix-length}
 use Rattle.derivation.specs.Derives.{Derives}
 use Rattle.derivation.specs.declared.Closing.{Closing}
 use Rattle.derivation.proofs.Theorems.{accepted-iff}
 use Rattle.derivation.proofs.Figure.{accepted-is-answered}
-use Rattle.writing.specs.Derive.{written-for, derivation-for, derive-file, length-of, buffer-after}
+use Rattle.writing.specs.Derive.{written-for, derivation-for, derive-file, length-of}
 use Rattle.writing.specs.Claims.{AcceptedWithFigure, WrittenInto}
 use Rattle.writing.proofs.WalkLaws.{derivation-closes}
 use Rattle.writing.proofs.Derives.{file-derives}

@@ -1,8 +1,8 @@
--- The writer's answer for every rule file and every lent buffer, and what the buffer then holds. Assumes nothing.
+-- The writer's answer for every rule file and every lent buffer. Assumes nothing.
 use Prim.Native.Nat.{ℕ}
 use mathlib.Core.Bool.{Bool, _||_}
-use mathlib.Core.List.{List, _++_}
-use lib.ListN.{length, drop}
+use mathlib.Core.List.{List}
+use lib.ListN.{length}
 use lib.Dec.{ltb}
 use Rattle.rule_file.specs.Limits.{max-bytes, max-lines}
 use Rattle.rule_file.specs.RuleFile.{clauses, prefix}
@@ -32,8 +32,3 @@ derive-file b capacity = and-then (read-file b) (λ _. refuse-if (too-long b cap
 abbrev pub length-of : Answer (List ℕ) → Answer ℕ
 length-of (refused r) = refused r
 length-of (answer d) = answer (length d)
-
--- the lent buffer then: a refusal leaves it as it was, and so are the bytes past the derivation's end
-abbrev pub buffer-after : Answer (List ℕ) → List ℕ → List ℕ
-buffer-after (refused r) before = before
-buffer-after (answer d) before = d ++ drop (length d) before

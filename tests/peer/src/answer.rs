@@ -1,9 +1,10 @@
-//! The eight operations, as the C interface answers them, and the clause reader and the reader of job lists, which it
+//! The nine operations, as the C interface answers them, and the clause reader and the reader of job lists, which it
 //! has not.
 
 use crate::derivation;
 use crate::enumerate;
 use crate::list::{self, Kind, Tally};
+use crate::repair::{self, Repaired};
 use crate::rules::{self, Fault, Rules};
 use crate::tables::Tables;
 use crate::writer;
@@ -17,7 +18,7 @@ pub const MOST_ENUMERATED: usize = 7;
 pub struct Answer {
     pub code: u32,
     pub numbers: Vec<u64>,
-    /// What the writer puts at the start of its buffer.
+    /// What the writer or the repair puts at the start of its buffer.
     pub written: Vec<u8>,
 }
 
@@ -39,7 +40,7 @@ impl Answer {
         out
     }
 
-    /// The content of the writer's buffer after the call.
+    /// The content of the lent buffer after the call.
     pub fn buffer(&self, before: &[u8]) -> Vec<u8> {
         [&self.written, &before[self.written.len()..]].concat()
     }
@@ -164,6 +165,21 @@ pub fn reading(rules: &Result<Rules, Fault>) -> Answer {
 /// What the small reader gives. The other operations are the bench's.
 pub fn read_small(rule: &[u8]) -> Answer {
     reading(&rules::read_small(rule))
+}
+
+/// What a repair gives: how many bytes it writes, and its three counts.
+pub fn repairing(repaired: Result<Repaired, Fault>) -> Answer {
+    match repaired {
+        Ok(Repaired { written, counts: [clauses, literals, reordered] }) => {
+            Answer { numbers: vec![written.len() as u64, clauses, literals, reordered], written, ..Answer::default() }
+        }
+        Err(fault) => Answer::refused(fault),
+    }
+}
+
+/// What the repair gives, lent a buffer of `capacity` bytes. It has its own reader.
+pub fn repair(rule: &[u8], capacity: usize) -> Answer {
+    repairing(repair::repair(rule, capacity))
 }
 
 /// Reads a rule file and answers one operation; for tests and samples.

@@ -1,7 +1,7 @@
 //! Run samples: a rule file, an operation and the answer that it must give. The program `run_samples` takes them as
 //! records and answers each by a line; `samples` says the form of both.
 
-use crate::answer::{answer, clauses, jobs, read_small, Answer, Solver};
+use crate::answer::{answer, clauses, jobs, read_small, repair, Answer, Solver};
 use crate::list::Tally;
 use crate::to_bytes;
 
@@ -21,6 +21,8 @@ pub enum Operation {
     /// The verdict with these limits, taken into a tally of these counts.
     Tally(u64, u64, [u32; 5]),
     ReadSmall,
+    /// The repair, with a buffer of this many bytes.
+    Repair(usize),
 }
 
 #[derive(Clone, Debug, PartialEq, Eq)]
@@ -45,6 +47,7 @@ impl Case {
             Operation::Jobs => jobs(&self.rule),
             Operation::Tally(lo, hi, counts) => solver.tally(*lo, *hi, Tally(counts.map(u64::from))),
             Operation::ReadSmall => read_small(&self.rule),
+            Operation::Repair(capacity) => repair(&self.rule, *capacity),
         })
     }
 
@@ -61,6 +64,7 @@ impl Case {
             Operation::Jobs => (8, 0, 0, Vec::new()),
             Operation::Tally(lo, hi, counts) => (9, *lo, *hi, to_bytes(counts)),
             Operation::ReadSmall => (10, 0, 0, Vec::new()),
+            Operation::Repair(capacity) => (11, *capacity as u64, 0, self.expected.written.clone()),
         };
         let mut record = to_bytes(&[operation]);
         record.extend([a, b].iter().flat_map(|number| number.to_le_bytes()));
@@ -79,7 +83,7 @@ impl Case {
             (Operation::Verdict(..), [2, _]) => format!("{code} below\n"),
             (Operation::Verdict(..), [_, figure]) => format!("{code} within {figure}\n"),
             (Operation::Clauses, _) if *code == 0 => all + " none\n",
-            (Operation::Derive(_), _) => all + " right\n",
+            (Operation::Derive(_) | Operation::Repair(_), _) => all + " right\n",
             (Operation::Jobs, [count, jobs @ ..]) => format!("{code} {count}{}\n", words_of(jobs)),
             _ => all + "\n",
         }

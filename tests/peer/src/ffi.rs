@@ -11,6 +11,7 @@ mod raw {
         pub fn ssat_cut(rule: *const u8, len: usize, level: u64, out: *mut u64) -> u32;
         pub fn ssat_check(rule: *const u8, len: usize, derivation: *const u8, dlen: usize, out: *mut u64) -> u32;
         pub fn ssat_derive(rule: *const u8, len: usize, buffer: *mut u8, capacity: usize, out: *mut u64) -> u32;
+        pub fn ssat_repair(rule: *const u8, len: usize, buffer: *mut u8, capacity: usize, out: *mut u64) -> u32;
         pub fn ssat_tally(rule: *const u8, len: usize, lo: u64, hi: u64, tally: *mut u64) -> u32;
     }
 }
@@ -34,7 +35,7 @@ const FILL: u8 = 0x5a;
 /// The longest buffer that can be lent.
 pub const LONGEST: usize = 17 * 4_096;
 
-/// What stands in the writer's buffer of so many bytes before each call.
+/// What stands in the buffer of so many bytes that is lent for writing, before each call.
 pub fn buffer_before(capacity: usize) -> Vec<u8> {
     (0..capacity).map(|at| (at * 37 + 11) as u8).collect()
 }
@@ -197,6 +198,14 @@ impl Library {
         let returned = self.call(|rule, len, _, _, out| unsafe { raw::ssat_derive(rule, len, buffer, capacity, out) });
         (returned, self.buffer.content("buffer"))
     }
+
+    /// Lends the repair a buffer of `capacity` bytes: also what it holds after the call.
+    pub fn repair(&mut self, capacity: usize, place: Place) -> (Returned, Vec<u8>) {
+        self.buffer.lend(&buffer_before(capacity), place);
+        let buffer = self.buffer.start();
+        let returned = self.call(|rule, len, _, _, out| unsafe { raw::ssat_repair(rule, len, buffer, capacity, out) });
+        (returned, self.buffer.content("buffer"))
+    }
 }
 
 /// What the small reader returns, and the bytes of stack that the call uses.
@@ -242,6 +251,13 @@ pub mod plain {
         let mut out = [0; 4];
         let code =
             unsafe { raw::ssat_derive(rule.as_ptr(), rule.len(), buffer.as_mut_ptr(), buffer.len(), out.as_mut_ptr()) };
+        (code, out)
+    }
+
+    pub fn repair(rule: &[u8], buffer: &mut [u8]) -> Returned {
+        let mut out = [0; 4];
+        let code =
+            unsafe { raw::ssat_repair(rule.as_ptr(), rule.len(), buffer.as_mut_ptr(), buffer.len(), out.as_mut_ptr()) };
         (code, out)
     }
 }

@@ -1,6 +1,6 @@
 //! A second SSAT solver, written apart from the proved one and not proved.
 //!
-//! It reads the same files and answers the same eight operations, the clause reader and the job lists of the program
+//! It reads the same files and answers the same nine operations, the clause reader and the job lists of the program
 //! `ssat_tally`, by its own methods, so that the two can be compared. A set of literals is kept as a 64-bit mask (bit
 //! `l` for literal `l`): with at most 32 variables every literal is under 64.
 //!
@@ -28,6 +28,7 @@ pub mod guard;
 pub mod list;
 pub mod near;
 pub mod random;
+pub mod repair;
 pub mod rules;
 pub mod samples;
 pub mod tables;

@@ -1,6 +1,7 @@
-//! The rule-file readers, the bench's and the rack controller's small one: refusals 1 to 7, 23, 8 and 9, in this order.
+//! The rule-file readers, the bench's, the rack controller's small one and the repair's: refusals 1 to 7, 23, 8 and 9,
+//! in this order; and rule files before they are written.
 
-use crate::{to_words, Literals};
+use crate::{to_bytes, to_words, Literals};
 
 /// A refusal's number, with the clause for 5 to 7 and 23, the variable for 8 and the line for 15 to 20.
 pub type Fault = (u32, Option<usize>);
@@ -19,6 +20,15 @@ pub enum Quantifier {
 }
 
 impl Quantifier {
+    /// What a true weight and a false weight say; none if they are refused by 8.
+    pub fn of(pair: [u32; 2]) -> Option<Quantifier> {
+        match pair {
+            [0, 0] => Some(Quantifier::Existential),
+            [a @ 1..=65_535, b @ 1..=65_535] => Some(Quantifier::Randomized { if_true: a.into(), if_false: b.into() }),
+            _ => None,
+        }
+    }
+
     pub fn total(self) -> u128 {
         match self {
             Quantifier::Existential => 1,
@@ -58,19 +68,55 @@ impl Rules {
     }
 }
 
-/// The most that a reader takes.
+/// A rule file before it is written.
+#[derive(Clone, Debug, Default, PartialEq, Eq)]
+pub struct RuleDraft {
+    pub clauses: Vec<Vec<u32>>,
+    /// True weight and false weight of each variable.
+    pub prefix: Vec<[u32; 2]>,
+}
+
+impl RuleDraft {
+    pub fn new(clauses: &[&[u32]], prefix: &[[u32; 2]]) -> RuleDraft {
+        RuleDraft { clauses: clauses.iter().map(|clause| clause.to_vec()).collect(), prefix: prefix.to_vec() }
+    }
+
+    pub fn words(&self) -> Vec<u32> {
+        let mut words = Vec::new();
+        for clause in &self.clauses {
+            words.push(clause.len() as u32);
+            words.extend(clause);
+        }
+        let start = words.len() as u32;
+        words.extend(self.prefix.iter().flatten());
+        let count = words.len() as u32 + 4;
+        words.extend([self.clauses.len() as u32, self.prefix.len() as u32, start, count]);
+        words
+    }
+
+    pub fn bytes(&self) -> Vec<u8> {
+        to_bytes(&self.words())
+    }
+}
+
+/// The most that a reader takes, and what it does not ask for.
 #[derive(Clone, Copy, Debug)]
 pub struct Reader {
     pub bytes: usize,
     pub variables: u32,
     pub clauses: u32,
+    /// Of the checks 6, 7 and 23 those that it leaves out.
+    pub left_out: &'static [u32],
 }
 
 /// The bench's reader.
-pub const BENCH: Reader = Reader { bytes: 65_536, variables: 32, clauses: 1_024 };
+pub const BENCH: Reader = Reader { bytes: 65_536, variables: 32, clauses: 1_024, left_out: &[] };
 
 /// The small reader. A file of 4,096 bytes has room for 1,020 clauses, but may claim more.
-pub const SMALL: Reader = Reader { bytes: 4_096, variables: 16, clauses: 1_024 };
+pub const SMALL: Reader = Reader { bytes: 4_096, variables: 16, ..BENCH };
+
+/// The repair's reader: what 7 and 23 refuse is what is repaired.
+pub const REPAIR: Reader = Reader { left_out: &[7, 23], ..BENCH };
 
 /// Reads a rule file on the bench or gives its refusal.
 pub fn read(bytes: &[u8]) -> Result<Rules, Fault> {
@@ -82,12 +128,41 @@ pub fn read_small(bytes: &[u8]) -> Result<Rules, Fault> {
     read_by(SMALL, bytes)
 }
 
-/// The same for any reader of at most 32 variables.
+/// The same for any reader of at most 32 variables that asks for 6. Where it leaves out 7, a set of literals may hold
+/// opposites.
 pub fn read_by(reader: Reader, bytes: &[u8]) -> Result<Rules, Fault> {
-    if !bytes.len().is_multiple_of(4) || bytes.len() < 16 || bytes.len() > reader.bytes {
+    let words = to_words(bytes);
+    let Parts { lists, sets, prefix_start, prefix, rest, .. } = parts(reader, bytes.len(), &words)?;
+    let all = |list: &[u32]| list.iter().fold(0, |set: Literals, literal| set | 1 << literal);
+    let clauses = sets.into_iter().zip(lists).map(|(set, list)| set.unwrap_or_else(|| all(list))).collect();
+    Ok(Rules { prefix, clauses, prefix_start, rest })
+}
+
+/// Clauses and weights of a rule file as they stand, or its refusal.
+pub fn draft_by(reader: Reader, bytes: &[u8]) -> Result<RuleDraft, Fault> {
+    let words = to_words(bytes);
+    let Parts { lists, pairs, .. } = parts(reader, bytes.len(), &words)?;
+    let prefix = pairs.chunks_exact(2).map(|pair| [pair[0], pair[1]]).collect();
+    Ok(RuleDraft { clauses: lists.into_iter().map(<[u32]>::to_vec).collect(), prefix })
+}
+
+/// What the words of a file say.
+struct Parts<'a> {
+    /// The literals of each clause as they stand, and as a set unless a variable stands twice.
+    lists: Vec<&'a [u32]>,
+    sets: Vec<Option<Literals>>,
+    prefix_start: usize,
+    /// The weights, two a variable.
+    pairs: &'a [u32],
+    prefix: Vec<Quantifier>,
+    rest: Vec<u128>,
+}
+
+/// The parts of a file of so many bytes, or its refusal.
+fn parts(reader: Reader, len: usize, words: &[u32]) -> Result<Parts<'_>, Fault> {
+    if !len.is_multiple_of(4) || len < 16 || len > reader.bytes {
         return Err((1, None));
     }
-    let words = to_words(bytes);
     let (body, trailer) = words.split_at(words.len() - 4);
     let [m, n, start, count] = [trailer[0], trailer[1], trailer[2], trailer[3]];
     if count as usize != words.len() {
@@ -117,24 +192,19 @@ pub fn read_by(reader: Reader, bytes: &[u8]) -> Result<Rules, Fault> {
         return Err((5, Some(m as usize)));
     }
 
-    if let Some(clause) = lists.iter().position(|list| list.iter().any(|&literal| literal >= 2 * n)) {
-        return Err((6, Some(clause)));
-    }
-    let mut clauses = Vec::new();
-    for (clause, list) in lists.iter().enumerate() {
-        clauses.push(set_of(list).ok_or((7, Some(clause)))?);
-    }
-    if let Some(clause) = lists.iter().position(|list| !is_rising(list)) {
-        return Err((23, Some(clause)));
-    }
+    // Each check covers all clauses before the next.
+    let refuse = |number: u32, first: Option<usize>| match first {
+        Some(clause) if !reader.left_out.contains(&number) => Err((number, Some(clause))),
+        _ => Ok(()),
+    };
+    refuse(6, lists.iter().position(|list| list.iter().any(|&literal| literal >= 2 * n)))?;
+    let sets: Vec<Option<Literals>> = lists.iter().map(|list| set_of(list)).collect();
+    refuse(7, sets.iter().position(Option::is_none))?;
+    refuse(23, lists.iter().position(|list| !is_rising(list)))?;
 
     let mut prefix = Vec::new();
     for (variable, pair) in pairs.chunks_exact(2).enumerate() {
-        prefix.push(match (pair[0], pair[1]) {
-            (0, 0) => Quantifier::Existential,
-            (a @ 1..=65_535, b @ 1..=65_535) => Quantifier::Randomized { if_true: a.into(), if_false: b.into() },
-            _ => return Err((8, Some(variable))),
-        });
+        prefix.push(Quantifier::of([pair[0], pair[1]]).ok_or((8, Some(variable)))?);
     }
 
     let mut rest = vec![1u128];
@@ -147,7 +217,7 @@ pub fn read_by(reader: Reader, bytes: &[u8]) -> Result<Rules, Fault> {
         rest.push(product);
     }
     rest.reverse();
-    Ok(Rules { prefix, clauses, prefix_start: start as usize, rest })
+    Ok(Parts { lists, sets, prefix_start: start as usize, pairs, prefix, rest })
 }
 
 /// The set of these literals, or none if a variable stands twice or is not under 32.
@@ -172,12 +242,5 @@ pub fn is_rising(list: &[u32]) -> bool {
 
 /// The clauses of a rule file in order, each with its literals as they stand, or the file's refusal.
 pub fn clauses(bytes: &[u8]) -> Result<Vec<Vec<u32>>, Fault> {
-    let rules = read(bytes)?;
-    let mut words = to_words(bytes).into_iter();
-    let mut clauses = Vec::new();
-    for _ in &rules.clauses {
-        let k = words.next().expect("a clause begins before the prefix");
-        clauses.push(words.by_ref().take(k as usize).collect());
-    }
-    Ok(clauses)
+    draft_by(BENCH, bytes).map(|draft| draft.clauses)
 }

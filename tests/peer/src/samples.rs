@@ -6,34 +6,36 @@
 //!
 //! | Words | Content |
 //! |---|---|
-//! | 0 | operation: 1 read, 2 figure, 3 verdict, 4 cut, 5 check, 6 clauses, 7 derive, 8 jobs, 9 tally, 10 read small |
-//! | 1, 2 | for 3 and 9 lo, the cut's level or the length of the writer's buffer, low word first; else 0 |
+//! | 0 | the operation, by its number below |
+//! | 1, 2 | for 3 and 9 lo, the cut's level or for 7 and 11 the length of the lent buffer, low word first; else 0 |
 //! | 3, 4 | for 3 and 9 hi; else 0 |
 //! | 5 | the length of the rule file in bytes; for 8 that of the job list, which stands in its place |
-//! | 6 | for 5 the length of the derivation to check in bytes, for 7 of the one to be written, for 9 20; else 0 |
+//! | 6 | for 5 the length of the derivation in bytes, for 7 and 11 that of what is to be written, for 9 20; else 0 |
 //!
-//! Then come the bytes of the rule file and those of the derivation; for 9 the tally's five counts, a word each, in the
-//! derivation's place. It answers each record by a line, closed by a line feed. A refusal is its number, with a blank
-//! and the clause, variable or line at fault where one is given. An answer begins with `0`; each further word or number
-//! stands after one blank, numbers in decimal:
+//! Then come the bytes of the rule file and those of the derivation; in its place stand for 9 the tally's five counts,
+//! a word each, and for 11 the repaired file, or nothing where it is refused. It answers each record by a line, closed
+//! by a line feed. A refusal is its number, with a blank and the clause, variable or line at fault where one is given.
+//! An answer begins with `0`; each further word or number stands after one blank, numbers in decimal:
 //!
 //! | Operation | Line |
 //! |---|---|
-//! | 1, 10 | `0 n m start whole` |
-//! | 2 | `0 figure whole` |
-//! | 3 | `0 above`, `0 below` or `0 within figure` |
-//! | 4 | `0 lower upper open` |
-//! | 5 | `0 value whole` |
-//! | 6 | `0`, then for each clause in order its length and its literals as they stand, then `none` |
-//! | 7 | `0 length right`; `right` stands after a refusal too |
-//! | 8 | `0` and the count of lines, then for each the length of its name and its limits, or `other` |
-//! | 9 | the number of the verdict's refusal or `0`, then the five counts with the result taken in |
+//! | 1 read, 10 read small | `0 n m start whole` |
+//! | 2 figure | `0 figure whole` |
+//! | 3 verdict | `0 above`, `0 below` or `0 within figure` |
+//! | 4 cut | `0 lower upper open` |
+//! | 5 check | `0 value whole` |
+//! | 6 clauses | `0`, then for each clause in order its length and its literals as they stand, then `none` |
+//! | 7 derive | `0 length right`; `right` stands after a refusal too |
+//! | 8 jobs | `0` and the count of lines, then for each the length of its name and its limits, or `other` |
+//! | 9 tally | the number of the verdict's refusal or `0`, then the five counts with the result taken in |
+//! | 11 repair | `0 length clauses literals reordered right`; `right` stands after a refusal too |
 //!
 //! So 6 gives `0 2 0 2 1 3 2 2 4 none` for clauses {0, 2}, {3}, {2, 4}, and `0 none` where there are no clauses. For 7
-//! the line ends in `wrong` instead if the buffer is another than it must be: the derivation, and after it what was
-//! there before.
+//! and 11 the line ends in `wrong` instead if the buffer is another than it must be: what is written, and after it what
+//! was there before.
 
 mod lists;
+mod repair;
 mod small;
 
 pub use lists::{run, Run};
@@ -138,6 +140,7 @@ pub fn cases() -> Vec<Case> {
     lists::job_lists(&mut list);
     lists::tallies(&mut list);
     small::small_reader(&mut list);
+    repair::repairs(&mut list);
     list.0
 }
 

@@ -1,12 +1,13 @@
-//! The peer by itself: document 01's samples, its methods against each other, and document 02's small reader, job lists
-//! and tallies.
+//! The peer by itself: document 01's samples, its methods against each other, and document 02's small reader, job
+//! lists, tallies and repair.
 
-use peer::answer::{answer, read_small, Answer};
+use peer::answer::{answer, read_small, repair, Answer};
 use peer::generate::{self, Folder, RuleDraft, Seen};
 use peer::list::{self, Job, Kind, Tally};
 use peer::near::{self, Told};
 use peer::random::Random;
-use peer::rules::{self, Fault, Rules};
+use peer::repair::{self, Mended};
+use peer::rules::{self, Fault, Rules, REPAIR};
 use peer::tables::Tables;
 use peer::writer::{self, DerivationDraft, Limits, LineDraft};
 use peer::{derivation, enumerate, to_bytes, to_words, walk};
@@ -634,5 +635,149 @@ fn near_lists_are_told() {
         told.take(&draft.bytes(), |job| folder.kind(job));
     }
     seen.reached(15, 5_000, 40);
+    told.reached(20);
+}
+
+/// Clauses on both sides of each border of the repair.
+#[test]
+fn mended_clauses() {
+    let kept = |clause: &[u32], literals: &[u32], dropped, reordered| {
+        let wanted = Mended { literals: Some(literals.to_vec()), counts: [0, dropped, reordered] };
+        assert_eq!(repair::mend(clause), wanted, "{clause:?}");
+    };
+    let dropped = |clause: &[u32]| assert_eq!(repair::mend(clause), Mended::DROPPED, "{clause:?}");
+
+    kept(&[], &[], 0, 0);
+    kept(&[7], &[7], 0, 0);
+    kept(&[0, 3, 4], &[0, 3, 4], 0, 0);
+    kept(&[4, 3, 0], &[0, 3, 4], 0, 1);
+    kept(&[0, 4, 3], &[0, 3, 4], 0, 1);
+    // Literals that differ by 1: opposites, and no opposites.
+    dropped(&[0, 1]);
+    dropped(&[1, 0]);
+    kept(&[1, 2], &[1, 2], 0, 0);
+    kept(&[2, 1], &[1, 2], 0, 1);
+    dropped(&[5, 0, 2, 4]);
+    dropped(&[62, 0, 63]);
+    // The first of equal literals tells the order.
+    kept(&[2, 2], &[2], 1, 0);
+    kept(&[0, 4, 0], &[0, 4], 1, 0);
+    kept(&[4, 0, 4], &[0, 4], 1, 1);
+    kept(&[0, 0, 4, 4, 0], &[0, 4], 3, 0);
+    kept(&[4, 0, 0, 4], &[0, 4], 2, 1);
+    kept(&[6; 32], &[6], 31, 0);
+    // What a dropped clause has besides does not count.
+    dropped(&[4, 0, 0, 1]);
+    dropped(&[0, 0, 1, 1]);
+}
+
+/// Files and buffers on both sides of each border of the repair.
+#[test]
+fn repaired_files() {
+    let weights = [[4, 1], [0, 0], [3, 7]];
+    let file = |clauses: &[&[u32]]| RuleDraft::new(clauses, &weights).bytes();
+    let check = |old: &[u8], new: &[u8], counts: [u64; 3]| {
+        let [clauses, literals, reordered] = counts;
+        let numbers = vec![new.len() as u64, clauses, literals, reordered];
+        let wanted = Answer { numbers, written: new.to_vec(), ..Answer::default() };
+        for capacity in [old.len(), old.len() + 1, 65_536, usize::MAX] {
+            assert_eq!(repair(old, capacity), wanted, "{:?}", to_words(old));
+        }
+        for capacity in [0, new.len().min(old.len() - 4), old.len() - 1] {
+            assert_eq!(repair(old, capacity), Answer::refused((25, None)), "{:?}", to_words(old));
+        }
+    };
+    let same = |file: &[u8]| check(file, file, [0; 3]);
+    same(&generate::sample().0.bytes());
+    same(&file(&[]));
+    same(&to_bytes(&[0, 0, 0, 4]));
+    same(&to_bytes(&[0, 0, 2, 0, 2, 6]));
+    // Copies stay, and so do empty clauses.
+    same(&file(&[&[0], &[], &[0], &[]]));
+    check(&file(&[&[2, 0], &[0, 2], &[0, 2, 0]]), &file(&[&[0, 2], &[0, 2], &[0, 2]]), [0, 1, 1]);
+    check(&file(&[&[0, 1], &[3, 2, 3], &[4, 5]]), &file(&[]), [3, 0, 0]);
+    let mixed = file(&[&[4, 2], &[0, 1, 1], &[2, 2, 0], &[], &[5, 4], &[3, 3]]);
+    check(&mixed, &file(&[&[2, 4], &[0, 2], &[], &[3]]), [2, 2, 2]);
+    // The trailer: three clauses from four, the prefix at word 6, 16 words.
+    let words = to_words(&repair(&file(&[&[5, 4, 0], &[4, 0, 4], &[1], &[]]), 1_000).written);
+    assert_eq!(words, [2, 0, 4, 1, 1, 0, 4, 1, 0, 0, 3, 7, 3, 3, 6, 16]);
+
+    // What the reader refuses by other numbers than 7 and 23, before 25.
+    let refused = |file: &[u8], fault: Fault| {
+        for capacity in [0, file.len().saturating_sub(1), file.len(), 65_536] {
+            assert_eq!(repair(file, capacity), Answer::refused(fault), "{:?}", to_words(file));
+        }
+    };
+    let with = |from_end: usize, word: u32| {
+        let mut words = to_words(&mixed);
+        let at = words.len() - from_end;
+        words[at] = word;
+        to_bytes(&words)
+    };
+    refused(&[], (1, None));
+    refused(&mixed[1..], (1, None));
+    refused(&mixed[4..], (2, None));
+    refused(&with(4, 1_025), (3, None));
+    refused(&with(3, 33), (3, None));
+    refused(&with(2, 20), (4, None));
+    refused(&with(4, 5), (5, Some(5)));
+    refused(&with(4, 7), (5, Some(6)));
+    refused(&file(&[&[1, 0], &[2, 2, 2, 2]]), (5, Some(1)));
+    refused(&file(&[&[1, 0], &[3, 2, 6]]), (6, Some(1)));
+    refused(&RuleDraft::new(&[&[2, 0], &[1, 0]], &[[1, 1], [0, 1]]).bytes(), (8, Some(1)));
+    refused(&RuleDraft::new(&[&[2, 0], &[1, 0]], &[[65_535, 65_535]; 4]).bytes(), (9, None));
+}
+
+/// Random files become what they were made from. That is accepted, stays as it is when it is repaired, is satisfied by
+/// the same assignments, and has the figure that document 01's rule gives the old clauses, as they stand and as sets.
+#[test]
+fn repairs_mean_the_same() {
+    let mut random = Random::new(11);
+    let (mut files, mut kinds) = (0, [0; 8]);
+    for round in 0..20_000 {
+        let most = if round % 8 == 0 { 10 } else { 6 };
+        let draft = generate::small_stored_rule(&mut random, most);
+        let (old, new) = (draft.stored.bytes(), draft.repaired.bytes());
+        let repaired = repair::repair(&old, old.len()).expect("a stored rule file");
+        assert_eq!((&repaired.written, repaired.counts), (&new, draft.counts), "{draft:?}");
+        let again = repair::repair(&new, new.len()).unwrap();
+        assert_eq!((&again.written, again.counts), (&new, [0; 3]), "{draft:?}");
+
+        let rules = rules_of(&draft.repaired);
+        let n = rules.n();
+        if n <= 6 {
+            let [old, new] = [&draft.stored, &draft.repaired].map(|rule| &rule.clauses);
+            for assignment in 0..1 << n {
+                let satisfied = repair::satisfied(old, assignment);
+                assert_eq!(satisfied, repair::satisfied(new, assignment), "{assignment:b}: {draft:?}");
+            }
+        }
+        let figure = repair::figure(&draft.stored);
+        assert_eq!(figure, enumerate::value(&rules), "{draft:?}");
+        let sets = rules::read_by(REPAIR, &old).unwrap();
+        assert_eq!(figure, enumerate::value(&sets), "{draft:?}");
+        assert_eq!(figure, Tables::new(&sets).value(), "{draft:?}");
+
+        files += 1;
+        let [clauses, literals, reordered] = draft.counts.map(|count| usize::from(count > 0));
+        kinds[clauses + 2 * literals + 4 * reordered] += 1;
+    }
+    println!("repairs_mean_the_same: {files} files, by the counts that are not 0: {kinds:?}");
+    assert!(kinds.iter().all(|count| *count >= 500), "files by the counts that are not 0: {kinds:?}");
+}
+
+/// Random files tell document 02's repair from what is nearly it.
+#[test]
+fn near_repairs_are_told() {
+    let mut random = Random::new(12);
+    let mut told = near::repairs::Told::default();
+    for _ in 0..12_000 {
+        let rule = generate::stored_file(&mut random);
+        // The long ones take most of the time.
+        if rule.len() < 2_000 {
+            let lengths = generate::buffer_lengths(&mut random, &rule);
+            told.take(&rule, &lengths);
+        }
+    }
     told.reached(20);
 }

@@ -1,14 +1,16 @@
-//! The proved solver against the peer on rule files: both readers, figure, verdict, tally, cut and the writer.
+//! The proved solver against the peer on rule files: both readers, figure, verdict, tally, cut, the writer and the
+//! repair.
 
 #![cfg(not(feature = "no-ffi"))]
 
 #[allow(dead_code)]
 mod common;
 
-use common::{random, rounds, Pair, CHECK, CUT, DERIVE, FIGURE, NAMING, READ, READ_SMALL, VERDICT};
+use common::{random, rounds, Pair, CHECK, CUT, DERIVE, FIGURE, NAMING, READ, READ_SMALL, REPAIR, VERDICT};
 use peer::ffi::{plain, Place};
 use peer::generate::{self, RuleDraft};
 use peer::near::Told;
+use peer::repair;
 use peer::rules;
 use peer::writer::{DerivationDraft, LineDraft};
 use peer::{to_bytes, to_words};
@@ -27,6 +29,7 @@ fn valid_files() {
     pair.reached(CUT, [0, 12], 10_000);
     pair.reached(DERIVE, [0, 22], 70_000);
     pair.reached(CHECK, [0], 35_000);
+    pair.reached(REPAIR, [0, 25], 35_000);
     assert!(pair.verdicts.iter().all(|count| *count > 1_000), "within, above, below: {:?}", pair.verdicts);
     pair.clashed([3_000, 5_000, 2_000], 300);
     pair.tallied.reached(1_000);
@@ -111,6 +114,7 @@ fn damaged_files() {
         pair.reached(operation, [0, 1, 2, 3, 4, 5, 6, 7, 23, 8], 50);
         pair.named_later(operation, [23], 50);
     }
+    pair.reached(REPAIR, [0, 1, 2, 3, 4, 5, 6, 8, 25], 50);
 }
 
 /// Files with one fault or several, each of the reader's refusals reached by each operation.
@@ -130,6 +134,8 @@ fn faulty_files() {
         pair.reached(operation, rules::REFUSALS, 300);
         pair.named_later(operation, NAMING, 300);
     }
+    pair.reached(REPAIR, repair::REFUSALS, 300);
+    pair.named_later(REPAIR, [5, 6, 8], 300);
 }
 
 /// Accepted files with clauses put out of order: 23 names the first of them, wherever it stands.
@@ -158,6 +164,7 @@ fn unordered_files() {
     }
     pair.reached(READ_SMALL, [23], 9_000);
     pair.named_later(READ_SMALL, [23], 3_000);
+    pair.reached(REPAIR, [0, 25], 10_000);
     assert!(last >= 1_000 && far >= 50, "the last of several clauses {last}, a clause after 255 {far} times");
 }
 
@@ -248,6 +255,7 @@ fn read_only_pages() {
         library.cut(2);
         library.check();
         library.derive(200, Place::AtEnd);
+        library.repair(200, Place::AtEnd);
         library.read_only(false);
     }
 }

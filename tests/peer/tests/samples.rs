@@ -40,11 +40,11 @@ fn tally_program() {
     }
 }
 
-/// Every number from 0 to 24 is among the answers.
+/// Every number from 0 to 25 is among the answers.
 #[test]
 fn every_number() {
     let cases = samples::cases();
-    for code in 0..=24 {
+    for code in 0..=25 {
         assert!(cases.iter().any(|case| case.expected.code == code), "no case for {code}");
     }
 }
@@ -55,9 +55,13 @@ fn every_number() {
 #[test]
 fn library() {
     use peer::cases::Operation;
-    use peer::ffi::{buffer_before, Library, Place, BEFORE};
+    use peer::ffi::{buffer_before, Library, Place, Returned, BEFORE};
     let mut library = Library::new();
     for case in samples::cases() {
+        let written = |capacity: usize, (got, buffer): (Returned, Vec<u8>)| {
+            assert!(buffer == case.expected.buffer(&buffer_before(capacity)), "{}: another buffer", case.name);
+            got
+        };
         for place in [Place::AtEnd, Place::AtStart] {
             library.lend_rule(&case.rule, place);
             let got = match &case.operation {
@@ -70,11 +74,8 @@ fn library() {
                     library.lend_derivation(derivation, place);
                     library.check()
                 }
-                Operation::Derive(capacity) => {
-                    let (got, buffer) = library.derive(*capacity, place);
-                    assert!(buffer == case.expected.buffer(&buffer_before(*capacity)), "{}: another buffer", case.name);
-                    got
-                }
+                Operation::Derive(capacity) => written(*capacity, library.derive(*capacity, place)),
+                Operation::Repair(capacity) => written(*capacity, library.repair(*capacity, place)),
                 Operation::Tally(lo, hi, counts) => {
                     let (code, counts) = library.tally(*lo, *hi, counts.map(u64::from));
                     assert_eq!((code, &counts[..]), (case.expected.code, &case.expected.numbers[..]), "{}", case.name);

@@ -5,7 +5,7 @@
 #[allow(dead_code)]
 mod common;
 
-use common::{random, rounds};
+use common::{program, random, rounds};
 use peer::generate::{self, Folder, Seen};
 use peer::list::{self, Tally};
 use peer::near::lists::Told;
@@ -15,7 +15,7 @@ use std::ffi::OsStr;
 use std::fs::{create_dir_all, remove_dir_all, write, File};
 use std::io::{ErrorKind, Write};
 use std::os::unix::ffi::OsStrExt;
-use std::path::{Path, PathBuf};
+use std::path::PathBuf;
 use std::process::{self, Command, Stdio};
 
 /// The program and a folder to run it in, which stands as long as this does.
@@ -28,11 +28,7 @@ struct Room {
 
 impl Room {
     fn new(random: &mut Random, test: &str) -> Room {
-        let bin = env::var_os("SSAT_BIN_DIR").map_or_else(|| "../../target/bin".into(), PathBuf::from);
-        let path = Path::new(env!("CARGO_MANIFEST_DIR")).join(bin).join("ssat_tally");
-        let Ok(program) = path.canonicalize() else {
-            panic!("{} is missing: build it by `rt check ssat_tally`, or set SSAT_BIN_DIR.", path.display());
-        };
+        let program = program("ssat_tally");
         let base = env::temp_dir().join(format!("ssat-{test}-{}", process::id()));
         let mut room = Room { program, base, folder: Folder::new(random) };
         let run = room.run();

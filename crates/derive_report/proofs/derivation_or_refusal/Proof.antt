@@ -7,9 +7,10 @@ use lib.ListN.{length}
 use Rattle.buffer.specs.Text.{Put}
 use Rattle.buffer.proofs.TextLaws.{put-at-start}
 use Rattle.rule_file.specs.Limits.{max-bytes}
+use Rattle.rule_file.specs.Answer.{buffer-after}
 use Rattle.rule_file.specs.declared.Refusal.{Refusal}
 use Rattle.report.specs.Report.{refusal-line}
-use Rattle.writing.specs.Derive.{derive-file, length-of, buffer-after}
+use Rattle.writing.specs.Derive.{derive-file, length-of}
 use Rattle.writing.proofs.DeriveLaws.{refusal-answered, length-answered}
 use Rattle.writer.specs.Answer.{derive-answer}
 use Rattle.writer.specs.declared.Deriving.{Deriving}

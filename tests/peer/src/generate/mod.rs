@@ -1,49 +1,22 @@
-//! Makers of rule files and derivations, random ones, valid ones and damaged ones, and of job lists.
+//! Makers of rule files and derivations, random ones, valid ones and damaged ones, of rule files to be repaired, and of
+//! job lists.
 
 mod borders;
 mod derivations;
 mod lists;
 mod rule_files;
+mod stored;
 
 pub use borders::*;
 pub use derivations::*;
 pub use lists::*;
 pub use rule_files::*;
+pub use stored::*;
+
+pub use crate::rules::RuleDraft;
 
 use crate::random::Random;
-use crate::to_bytes;
 use crate::writer::{DerivationDraft, LineDraft};
-
-/// A rule file before it is written.
-#[derive(Clone, Debug, Default)]
-pub struct RuleDraft {
-    pub clauses: Vec<Vec<u32>>,
-    /// True weight and false weight of each variable.
-    pub prefix: Vec<[u32; 2]>,
-}
-
-impl RuleDraft {
-    pub fn new(clauses: &[&[u32]], prefix: &[[u32; 2]]) -> RuleDraft {
-        RuleDraft { clauses: clauses.iter().map(|clause| clause.to_vec()).collect(), prefix: prefix.to_vec() }
-    }
-
-    pub fn words(&self) -> Vec<u32> {
-        let mut words = Vec::new();
-        for clause in &self.clauses {
-            words.push(clause.len() as u32);
-            words.extend(clause);
-        }
-        let start = words.len() as u32;
-        words.extend(self.prefix.iter().flatten());
-        let count = words.len() as u32 + 4;
-        words.extend([self.clauses.len() as u32, self.prefix.len() as u32, start, count]);
-        words
-    }
-
-    pub fn bytes(&self) -> Vec<u8> {
-        to_bytes(&self.words())
-    }
-}
 
 /// The rule file and the derivation of document 01.
 pub fn sample() -> (RuleDraft, DerivationDraft) {

@@ -1,6 +1,7 @@
 //! Compares the proved solver with the peer, call by call, and counts what was answered.
 
 pub mod readings;
+pub mod repairs;
 
 use peer::answer::{self, Answer, Solver};
 use peer::ffi::{buffer_before, Library, Place, Returned, BEFORE, LONGEST};
@@ -8,9 +9,13 @@ use peer::generate;
 use peer::list::{Kind, Tally};
 use peer::near::kind_of_level;
 use peer::random::Random;
+use peer::repair;
 use peer::rules::{self, Fault, Rules};
 use peer::tables::Tables;
 use readings::Readings;
+use repairs::Repairs;
+use std::env;
+use std::path::{Path, PathBuf};
 
 pub const READ: usize = 0;
 pub const FIGURE: usize = 1;
@@ -19,16 +24,20 @@ pub const CUT: usize = 3;
 pub const CHECK: usize = 4;
 pub const DERIVE: usize = 5;
 pub const READ_SMALL: usize = 6;
-const NAMES: [&str; 7] = ["read", "figure", "verdict", "cut", "check", "derive", "read_small"];
+pub const REPAIR: usize = 7;
+const NAMES: [&str; 8] = ["read", "figure", "verdict", "cut", "check", "derive", "read_small", "repair"];
 
 /// One more than the highest number that is returned.
-const NUMBERS: usize = 24;
+const NUMBERS: usize = 26;
 
 /// The reader's refusals that name a clause or a variable.
 pub const NAMING: [u32; 5] = [5, 6, 7, 23, 8];
 
 /// Files whose tree has more nodes times clauses than this are read but not solved.
 const MOST_STEPS: u128 = 2_000_000;
+
+/// With at most this many variables document 01's rule is followed over clauses as they stand.
+const MOST_LISTED: usize = 6;
 
 pub struct Pair {
     pub library: Library,
@@ -44,6 +53,7 @@ pub struct Pair {
     /// How many of them have another open weight alone.
     pub open_alone: u64,
     pub tallied: Tallied,
+    pub repairs: Repairs,
 }
 
 /// What the tallies were that results were to be taken into.
@@ -81,13 +91,23 @@ impl Tallied {
 
 /// The number of rounds, times the variable PEER_ROUNDS if it is set.
 pub fn rounds(count: usize) -> usize {
-    count * std::env::var("PEER_ROUNDS").map_or(1, |text| text.parse().expect("PEER_ROUNDS is a number"))
+    count * env::var("PEER_ROUNDS").map_or(1, |text| text.parse().expect("PEER_ROUNDS is a number"))
 }
 
 /// The random numbers of one test: the same in every run, unless PEER_SEED is set.
 pub fn random(test: u64) -> Random {
-    let seed = std::env::var("PEER_SEED").map_or(0, |text| text.parse().expect("PEER_SEED is a number"));
+    let seed = env::var("PEER_SEED").map_or(0, |text| text.parse().expect("PEER_SEED is a number"));
     Random::new(Random::new(seed).word() ^ test)
+}
+
+/// The path of a program that `rt check` built.
+pub fn program(name: &str) -> PathBuf {
+    let bin = env::var_os("SSAT_BIN_DIR").map_or_else(|| "../../target/bin".into(), PathBuf::from);
+    let path = Path::new(env!("CARGO_MANIFEST_DIR")).join(bin).join(name);
+    let Ok(program) = path.canonicalize() else {
+        panic!("{} is missing: build it by `rt check {name}`, or set SSAT_BIN_DIR.", path.display());
+    };
+    program
 }
 
 fn place(random: &mut Random) -> Place {
@@ -109,6 +129,7 @@ impl Pair {
             by_clashes: [0; 3],
             open_alone: 0,
             tallied: Tallied::default(),
+            repairs: Repairs::default(),
         }
     }
 
@@ -135,6 +156,9 @@ impl Pair {
         self.readers(bytes, &rules);
         let solver = Solver::new(&rules);
         self.derive(random, bytes, &solver);
+        for capacity in [bytes.len(), bytes.len().saturating_sub(1)] {
+            self.repair_to(Place::AtEnd, bytes, capacity);
+        }
         let (n, m, whole) = match &rules {
             Ok(rules) => (rules.n() as u64, rules.clauses.len(), rules.whole() as u64),
             Err(_) => (random.below(34) as u64, 0, 1 << random.below(63)),
@@ -256,6 +280,62 @@ impl Pair {
         longest
     }
 
+    /// Compares the repair of the rule file that is lent, with a buffer of `capacity` bytes.
+    fn repair_to(&mut self, place: Place, rule: &[u8], capacity: usize) -> Answer {
+        let input = || format!("buffer of {capacity} bytes, rule file {}", to_hex(rule));
+        let expected = answer::repair(rule, capacity);
+        let (got, buffer) = self.library.repair(capacity, place);
+        self.same(REPAIR, &expected, got, input);
+        assert!(
+            buffer == expected.buffer(&buffer_before(capacity)),
+            "repair: another buffer than the peer's\n{}",
+            input()
+        );
+        expected
+    }
+
+    /// Compares the repair of one rule file, with buffers of these lengths and of its own: the answer with the last, and
+    /// what is written then.
+    pub fn repair(&mut self, random: &mut Random, rule: &[u8], capacities: &[usize]) -> Answer {
+        self.library.lend_rule(rule, place(random));
+        for &capacity in capacities {
+            self.repair_to(place(random), rule, capacity);
+        }
+        let repaired = self.repair_to(place(random), rule, rule.len());
+        if repaired.code == 0 {
+            self.repairs.take(rule, &repaired, capacities);
+            self.repaired(random, rule, &repaired.written);
+        }
+        repaired
+    }
+
+    /// Fails unless a repaired file is accepted, stays as it is when it is repaired, and has the figure that document
+    /// 01's rule gives the old clauses.
+    fn repaired(&mut self, random: &mut Random, rule: &[u8], written: &[u8]) {
+        let input = || format!("rule file {}", to_hex(rule));
+        self.library.lend_rule(written, place(random));
+        let new = rules::read(written);
+        assert!(new.is_ok(), "a repaired file is refused by {new:?}: {}", input());
+        self.readers(written, &new);
+        let again = self.repair_to(place(random), written, written.len());
+        assert_eq!(again.numbers, [written.len() as u64, 0, 0, 0], "repaired twice: {}", input());
+        assert!(again.written == written, "repaired twice, other bytes: {}", input());
+
+        let old = rules::read_by(rules::REPAIR, rule);
+        let solver = Solver::new(&old);
+        let (n, m) = old.as_ref().map_or((0, 0), |old| (old.n(), old.clauses.len()));
+        if solver.nodes() * (m as u128 + 1) > MOST_STEPS {
+            return;
+        }
+        let figure = solver.figure();
+        if n <= MOST_LISTED {
+            let stored = rules::draft_by(rules::REPAIR, rule).unwrap();
+            assert_eq!(u128::from(figure.numbers[0]), repair::figure(&stored), "{}", input());
+        }
+        let got = self.library.figure();
+        self.same(FIGURE, &figure, got, input);
+    }
+
     /// Fails unless the operation returned each of these numbers at least `least` times.
     pub fn reached(&self, operation: usize, numbers: impl IntoIterator<Item = u32>, least: u64) {
         for number in numbers {
@@ -298,7 +378,7 @@ impl Pair {
             text +=
                 &format!("  other numbers by clashes: {:?}, open weight alone: {}\n", self.by_clashes, self.open_alone);
         }
-        print!("{text}{}", self.readings.report());
+        print!("{text}{}{}", self.readings.report(), self.repairs.report());
     }
 }
 

@@ -1,0 +1,56 @@
+-- The definitions of the repair, computed: over clauses, and over the bytes of two files. Assumes nothing.
+use mathlib.Core.Path.{_≡_, refl}
+use mathlib.Core.List.{List, [], _∷_, map}
+use Prim.Native.Nat.{ℕ}
+use Rattle.formula.specs.Formula.{some-of, out-of-range, repeats, unordered, without, insert-once, rising}
+use Rattle.formula.specs.Quantifier.{denominator}
+use Rattle.buffer.specs.Bytes.{word-bytes, bytes-of}
+use Rattle.rule_file.specs.Walk.{elements, first, walk}
+use Rattle.rule_file.specs.Words.{word, wrong-length}
+use Rattle.rule_file.specs.RuleFile.{quantifier}
+use Rattle.rule_file.specs.Answer.{refused, answer}
+use Rattle.rule_file.specs.Reader.{wrong-count, too-many, wrong-prefix, clause-fits, malformed, too-large, read-from-8, read-from-6, read-from-5, read-from-3, read-within, read-file, read-stored}
+use Rattle.rule_file.specs.declared.Refusal.the-variants.{Alone}
+use Rattle.repair.specs.Clauses.{first-occurrences, tautological, passing, repaired, literal-count, dropped-clauses, dropped-literals, reordered}
+use Rattle.repair.specs.File.{formula-words, rule-words}
+use Rattle.repair.specs.Repair.{repaired-file, repair-file}
+
+-- one that falls, with a repeat; a tautology with a repeat; two with a repeat that do not fall; an empty one; one that
+-- falls
+abbrev before : List (List ℕ)
+before = (4 ∷ 0 ∷ 4 ∷ []) ∷ (0 ∷ 1 ∷ 0 ∷ []) ∷ (0 ∷ 4 ∷ 0 ∷ []) ∷ (2 ∷ 2 ∷ []) ∷ [] ∷ (4 ∷ 0 ∷ []) ∷ []
+
+abbrev after : List (List ℕ)
+after = (0 ∷ 4 ∷ []) ∷ (0 ∷ 4 ∷ []) ∷ (2 ∷ []) ∷ [] ∷ (0 ∷ 4 ∷ []) ∷ []
+
+pub example-repaired : repaired before ≡ after
+unfolding tautological some-of passing insert-once rising
+example-repaired = refl
+
+-- clauses dropped, literals dropped, clauses reordered
+pub example-counts : dropped-clauses before after ∷ dropped-literals before after ∷ reordered before ∷ [] ≡ 1 ∷ 3 ∷ 2 ∷ []
+unfolding tautological some-of passing literal-count insert-once rising first-occurrences without unordered
+example-counts = refl
+
+-- which of them are reordered
+pub example-reordered : map (λ c. reordered (c ∷ [])) before ≡ 1 ∷ 0 ∷ 0 ∷ 0 ∷ 0 ∷ 1 ∷ []
+unfolding tautological some-of passing first-occurrences without unordered
+example-reordered = refl
+
+-- a file of the clause 2, 0 over two existential variables: 7 and 23 are not asked
+pub example-unordered : repair-file (bytes-of (2 ∷ 2 ∷ 0 ∷ 0 ∷ 0 ∷ 0 ∷ 0 ∷ 1 ∷ 2 ∷ 3 ∷ 11 ∷ [])) 44 ≡ answer (bytes-of (2 ∷ 0 ∷ 2 ∷ 0 ∷ 0 ∷ 0 ∷ 0 ∷ 1 ∷ 2 ∷ 3 ∷ 11 ∷ []))
+unfolding
+    tautological some-of passing insert-once rising out-of-range repeats unordered denominator
+    bytes-of word-bytes elements first walk word wrong-length quantifier
+    wrong-count too-many wrong-prefix clause-fits malformed too-large read-from-8 read-from-6 read-from-5 read-from-3 read-within read-file read-stored
+    formula-words rule-words repaired-file repair-file
+example-unordered = refl
+
+-- one of the clause 2, 2: the repaired file has 40 bytes, and still 43 are too few
+pub example-room : repair-file (bytes-of (2 ∷ 2 ∷ 2 ∷ 0 ∷ 0 ∷ 0 ∷ 0 ∷ 1 ∷ 2 ∷ 3 ∷ 11 ∷ [])) 43 ≡ refused (Alone 25)
+unfolding
+    tautological some-of passing insert-once rising out-of-range repeats unordered denominator
+    bytes-of word-bytes elements first walk word wrong-length quantifier
+    wrong-count too-many wrong-prefix clause-fits malformed too-large read-from-8 read-from-6 read-from-5 read-from-3 read-within read-file read-stored
+    formula-words rule-words repaired-file repair-file
+example-room = refl

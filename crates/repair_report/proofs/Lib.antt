@@ -1,0 +1,2 @@
+-- A notice, computed.
+pub mod ExampleNotice

@@ -1,0 +1,2 @@
+-- What the program ssat_repair prints for a rule file.
+pub mod RepairReport

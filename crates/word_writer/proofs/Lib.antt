@@ -1,0 +1,2 @@
+-- That words are read back from the bytes that they are written as.
+pub mod WordsBack
