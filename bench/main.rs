@@ -3,10 +3,17 @@
 //!
 //!     cargo bench --manifest-path tests/peer/Cargo.toml
 //!
-//! The proved solver runs in a thread with a stack of 1 MiB. "Nodes" are those of the plain tree
-//! that stops where all clauses are satisfied, one is falsified or two clash, counted by the peer;
-//! the proved solver may visit fewer. The peer solves each file in two ways: "walk" visits that
-//! tree, unless it is too large, "tables" shares nodes with the same undetermined clauses.
+//! The proved solver runs in a thread with a stack of 1 MiB. Both solvers are given the bytes of a
+//! file and read it.
+//!
+//! The first table has files on which a good search is needed, and the peer's own search. There
+//! the proved solver is a process of its own, which is ended after 60 seconds, or after those of
+//! the variable BENCH_SECONDS; it then has no time in the table.
+//!
+//! In the second table "nodes" are those of the plain tree that stops where all clauses are
+//! satisfied, one is falsified or two clash, counted by the peer; a search visits fewer. The peer
+//! solves each file in two ways: "walk" visits that tree, unless it is too large, "tables" shares
+//! nodes with the same undetermined clauses.
 
 #[cfg(feature = "no-ffi")]
 fn main() {
@@ -15,37 +22,47 @@ fn main() {
 
 #[cfg(not(feature = "no-ffi"))]
 fn main() {
-    bench::main();
+    let arguments: Vec<String> = std::env::args().collect();
+    match &arguments[1..] {
+        [command, question, n, limits @ ..] if command == "process" => {
+            bench::process(question, n, limits)
+        }
+        _ => bench::main(),
+    }
 }
 
 #[cfg(not(feature = "no-ffi"))]
 mod bench {
-    use peer::ffi::{plain, read_small_on_stack};
-    use peer::generate::{self, Freedom, RuleDraft};
+    use peer::ffi::{direct, read_small_on_stack};
+    use peer::generate::{self, Family, Freedom, RuleDraft, Shape};
     use peer::guard::on_stack;
     use peer::random::Random;
     use peer::rules::{self, Rules};
+    use peer::search::{self, Verdict};
     use peer::tables::Tables;
     use peer::writer::{self, DerivationDraft, Limits, Writer};
     use peer::{answer, derivation, walk};
+    use std::env;
     use std::hint::black_box;
-    use std::time::Instant;
+    use std::io::{Read, Write};
+    use std::process::{Command, Stdio};
+    use std::thread::sleep;
+    use std::time::{Duration, Instant};
 
     const STACK: usize = 1 << 20;
     /// The peer does not walk a tree of more nodes than this.
     const MOST_WALKED: u128 = 10_000_000;
 
-    /// Seconds for one run: the least of several runs.
+    /// Seconds for one run: the least of several runs, or a single one that takes long.
     fn seconds(mut run: impl FnMut()) -> f64 {
         let begin = Instant::now();
         let mut least = f64::INFINITY;
-        let mut runs = 0;
-        while runs < 3 || (runs < 1_000 && begin.elapsed().as_secs_f64() < 0.2) {
+        for runs in 1..=1_000 {
             let one = Instant::now();
             run();
             least = least.min(one.elapsed().as_secs_f64());
-            runs += 1;
-            if begin.elapsed().as_secs_f64() > 10.0 {
+            let all = begin.elapsed().as_secs_f64();
+            if all > 1.5 || runs >= 3 && all > 0.15 {
                 break;
             }
         }
@@ -94,6 +111,317 @@ mod bench {
             0
         };
         format!("{ratio:.places$}")
+    }
+
+    // -----------------------------------------------------------------------------------------
+    // Hard files
+    // -----------------------------------------------------------------------------------------
+
+    /// For each shape the number of variables, the literals a clause and the clauses a variable.
+    const HARD: [(&str, Shape, [[usize; 3]; 8]); 5] = [
+        (
+            "randomized",
+            Shape::Randomized,
+            [
+                [20, 4, 4],
+                [24, 5, 8],
+                [24, 9, 32],
+                [28, 7, 16],
+                [32, 4, 2],
+                [32, 5, 8],
+                [32, 6, 16],
+                [32, 9, 32],
+            ],
+        ),
+        (
+            "existential",
+            Shape::Existential,
+            [
+                [24, 4, 10],
+                [28, 4, 10],
+                [28, 5, 21],
+                [32, 4, 8],
+                [32, 4, 10],
+                [32, 4, 12],
+                [32, 5, 21],
+                [32, 6, 32],
+            ],
+        ),
+        (
+            "alternating",
+            Shape::Alternating,
+            [
+                [20, 7, 16],
+                [24, 4, 8],
+                [24, 6, 16],
+                [28, 5, 4],
+                [32, 4, 4],
+                [32, 5, 16],
+                [32, 6, 8],
+                [32, 9, 16],
+            ],
+        ),
+        (
+            "existential first",
+            Shape::ExistentialFirst,
+            [
+                [20, 5, 8],
+                [24, 4, 2],
+                [24, 9, 32],
+                [28, 6, 16],
+                [32, 4, 4],
+                [32, 5, 4],
+                [32, 6, 32],
+                [32, 7, 8],
+            ],
+        ),
+        (
+            "randomized first",
+            Shape::RandomizedFirst,
+            [
+                [20, 6, 16],
+                [24, 5, 8],
+                [24, 9, 32],
+                [28, 4, 4],
+                [32, 4, 4],
+                [32, 6, 16],
+                [32, 7, 32],
+                [32, 9, 16],
+            ],
+        ),
+    ];
+
+    /// What is asked of a hard file.
+    #[derive(Clone, Copy)]
+    enum Question {
+        Figure,
+        /// A verdict with both limits at the value, one with limits under it, by a tenth, and one
+        /// with limits over it, as far as there are such.
+        Verdicts,
+        Cut(usize),
+        /// The cuts at all levels.
+        Cuts,
+    }
+
+    impl Question {
+        fn name(self) -> String {
+            match self {
+                Question::Figure => "figure".to_string(),
+                Question::Verdicts => "verdicts".to_string(),
+                Question::Cut(level) => format!("cut {level}"),
+                Question::Cuts => "all cuts".to_string(),
+            }
+        }
+
+        fn of(name: &str) -> Question {
+            match name {
+                "figure" => Question::Figure,
+                "verdicts" => Question::Verdicts,
+                "all cuts" => Question::Cuts,
+                _ => Question::Cut(name.trim_start_matches("cut ").parse().unwrap()),
+            }
+        }
+
+        /// The numbers of the proved solver's answers.
+        fn proved(self, file: &[u8], n: usize, limits: &[[u64; 2]]) -> Vec<u64> {
+            let answers = match self {
+                Question::Figure => vec![direct::figure(file)],
+                Question::Verdicts => {
+                    let verdict = |&[lo, hi]: &[u64; 2]| direct::verdict(file, lo, hi);
+                    limits.iter().map(verdict).collect()
+                }
+                Question::Cut(level) => vec![direct::cut(file, level as u64)],
+                Question::Cuts => (0..=n)
+                    .map(|level| direct::cut(file, level as u64))
+                    .collect(),
+            };
+            assert!(answers.iter().all(|(code, _)| *code == 0));
+            answers
+                .iter()
+                .flat_map(|(_, out)| &out[..3])
+                .copied()
+                .collect()
+        }
+
+        /// The same of the peer's search.
+        fn peer(self, file: &[u8], limits: &[[u64; 2]]) -> Vec<u64> {
+            let rules = rules_of(file);
+            let verdict = |&[lo, hi]: &[u64; 2]| match search::verdict(&rules, lo, hi) {
+                Verdict::Above => [1, 0, 0],
+                Verdict::Below => [2, 0, 0],
+                Verdict::Within(value) => [0, value, 0],
+            };
+            let answers = match self {
+                Question::Figure => vec![[search::value(&rules), rules.whole() as u64, 0]],
+                Question::Verdicts => limits.iter().map(verdict).collect(),
+                Question::Cut(level) => vec![search::cut(&rules, level)],
+                Question::Cuts => search::cuts(&rules),
+            };
+            answers.concat()
+        }
+    }
+
+    /// Limits at a value, under it and over it.
+    fn limits(value: u64, whole: u64) -> Vec<[u64; 2]> {
+        let mut limits = vec![[value, value]];
+        if value > 0 {
+            limits.push([0, value - 1 - value / 10]);
+        }
+        if value < whole {
+            limits.push([value + 1 + (value / 10).min(whole - value - 1), whole]);
+        }
+        limits
+    }
+
+    /// How long the proved solver took, how much stack, and what it answered.
+    struct Proved {
+        seconds: f64,
+        stack: usize,
+        numbers: Vec<u64>,
+    }
+
+    /// The process that `proved` starts: the file comes on standard input.
+    pub fn process(question: &str, n: &str, limits: &[String]) {
+        let question = Question::of(question);
+        let n = n.parse().unwrap();
+        let limits: Vec<u64> = limits.iter().map(|limit| limit.parse().unwrap()).collect();
+        let limits: Vec<[u64; 2]> = limits
+            .chunks_exact(2)
+            .map(|pair| [pair[0], pair[1]])
+            .collect();
+        let mut file = Vec::new();
+        std::io::stdin().read_to_end(&mut file).unwrap();
+        let mut numbers = Vec::new();
+        let mut run = || numbers = question.proved(black_box(&file), n, &limits);
+        let (least, stack) = seconds_on_stack(&mut run);
+        println!("{least} {stack}");
+        numbers.iter().for_each(|number| println!("{number}"));
+    }
+
+    /// Asks the proved solver in a process of its own; none if that takes longer than `most`.
+    fn proved(
+        file: &[u8],
+        question: Question,
+        n: usize,
+        limits: &[[u64; 2]],
+        most: Duration,
+    ) -> Option<Proved> {
+        let mut process = Command::new(env::current_exe().unwrap())
+            .args(["process", &question.name(), &n.to_string()])
+            .args(limits.iter().flatten().map(u64::to_string))
+            .stdin(Stdio::piped())
+            .stdout(Stdio::piped())
+            .spawn()
+            .unwrap();
+        process.stdin.take().unwrap().write_all(file).unwrap();
+        let begin = Instant::now();
+        while process.try_wait().unwrap().is_none() {
+            if begin.elapsed() > most {
+                process.kill().unwrap();
+                process.wait().unwrap();
+                return None;
+            }
+            sleep(Duration::from_millis(2));
+        }
+        let mut text = String::new();
+        process.stdout.unwrap().read_to_string(&mut text).unwrap();
+        let (times, numbers) = text.split_once('\n').expect("an answer");
+        let (seconds, stack) = times.split_once(' ').unwrap();
+        Some(Proved {
+            seconds: seconds.parse().unwrap(),
+            stack: stack.parse().unwrap(),
+            numbers: numbers
+                .lines()
+                .map(|number| number.parse().unwrap())
+                .collect(),
+        })
+    }
+
+    /// The ratios of one kind of question.
+    #[derive(Default)]
+    struct Ratios {
+        found: Vec<(f64, String)>,
+        /// How many runs took too long.
+        ended: usize,
+    }
+
+    impl Ratios {
+        /// The geometric mean, and the largest with its row.
+        fn print(&self, kind: &str) {
+            let Ratios { found, ended } = self;
+            let Some((worst, row)) = found.iter().max_by(|a, b| a.0.total_cmp(&b.0)) else {
+                println!("{kind}: no ratio, {ended} runs ended");
+                return;
+            };
+            let mean = found.iter().map(|(ratio, _)| ratio.ln()).sum::<f64>() / found.len() as f64;
+            println!(
+                "{kind}: geometric mean {:.2} of {} ratios, the worst {worst:.2} ({row}); {ended} runs ended",
+                mean.exp(),
+                found.len(),
+            );
+        }
+    }
+
+    /// Figure, verdicts and cuts of the hard families, and the ratios as a whole.
+    fn hard() {
+        let most = env::var("BENCH_SECONDS").map_or(60.0, |text| text.parse().unwrap());
+        let most = Duration::from_secs_f64(most);
+        println!("| quantifiers | literals a clause | n | m | operation | proved, ms | peer, ms | proved / peer | stack, bytes |");
+        println!("|---|--:|--:|--:|---|--:|--:|--:|--:|");
+        let [mut values, mut cuts] = [Ratios::default(), Ratios::default()];
+        for (name, shape, families) in HARD {
+            for [n, k, per_variable] in families {
+                let family = Family {
+                    shape,
+                    n,
+                    k,
+                    per_variable,
+                };
+                let mut random = Random::new((n * 10_000 + k * 100 + per_variable) as u64);
+                let rule = generate::hard_rule(&mut random, family);
+                let (file, m) = (rule.bytes(), rule.clauses.len());
+                let rules = rules_of(&file);
+                let limits = limits(search::value(&rules), rules.whole() as u64);
+                let mut questions = vec![
+                    Question::Figure,
+                    Question::Verdicts,
+                    Question::Cut(n / 2),
+                    Question::Cut(3 * n / 4),
+                ];
+                if n <= 28 {
+                    questions.push(Question::Cuts);
+                }
+                for question in questions {
+                    let ratios = match question {
+                        Question::Figure | Question::Verdicts => &mut values,
+                        Question::Cut(_) | Question::Cuts => &mut cuts,
+                    };
+                    let mut numbers = Vec::new();
+                    let peer = seconds(|| numbers = question.peer(black_box(&file), &limits));
+                    let row = format!("{name} | {k} | {n} | {m} | {}", question.name());
+                    let Some(proved) = proved(&file, question, n, &limits, most) else {
+                        ratios.ended += 1;
+                        println!("| {row} | - | {} | - | - |", ms(peer));
+                        continue;
+                    };
+                    assert_eq!(proved.numbers, numbers, "{row}");
+                    ratios
+                        .found
+                        .push((proved.seconds / peer, row.replace(" | ", ", ")));
+                    println!(
+                        "| {row} | {} | {} | {} | {} |",
+                        ms(proved.seconds),
+                        ms(peer),
+                        ratio(proved.seconds, peer),
+                        proved.stack
+                    );
+                }
+            }
+        }
+        println!();
+        values.print("figure and verdicts");
+        println!();
+        cuts.print("cuts");
     }
 
     // -----------------------------------------------------------------------------------------
@@ -154,9 +482,9 @@ mod bench {
         }
     }
 
-    type Family = (&'static str, fn(usize) -> RuleDraft);
+    type Tree = (&'static str, fn(usize) -> RuleDraft);
 
-    const FAMILIES: [Family; 6] = [
+    const TREES: [Tree; 6] = [
         ("3-clauses, alternating", |n| {
             three_clauses(1_000, n, |v| v % 2 == 1)
         }),
@@ -172,8 +500,8 @@ mod bench {
     fn trees() {
         println!("| family | n | m | operation | nodes | proved, ms | ns a node | walk, ms | proved / walk | tables, ms | proved / tables | stack, bytes |");
         println!("|---|--:|--:|---|--:|--:|--:|--:|--:|--:|--:|--:|");
-        for (name, make) in FAMILIES {
-            for n in [16, 20, 24, 28, 32] {
+        for (name, make) in TREES {
+            for n in [16, 24, 32] {
                 let file = make(n).bytes();
                 let rules = rules_of(&file);
                 let tables = Tables::new(&rules);
@@ -212,8 +540,8 @@ mod bench {
         let mut got = (0, [0; 4]);
         let mut call = || {
             got = match level {
-                None => plain::figure(black_box(file)),
-                Some(level) => plain::cut(black_box(file), level as u64),
+                None => direct::figure(black_box(file)),
+                Some(level) => direct::cut(black_box(file), level as u64),
             }
         };
         let (proved, stack) = seconds_on_stack(&mut call);
@@ -339,7 +667,7 @@ mod bench {
             let (file, steps) = (rule.bytes(), draft.bytes());
             let mut got = (0, [0; 4]);
             let (proved, stack) =
-                seconds_on_stack(&mut || got = plain::check(black_box(&file), black_box(&steps)));
+                seconds_on_stack(&mut || got = direct::check(black_box(&file), black_box(&steps)));
             let peer = seconds(|| {
                 let rules = rules_of(black_box(&file));
                 let value =
@@ -389,7 +717,7 @@ mod bench {
             let mut buffer = vec![0; 65_536];
             let mut got = (0, [0; 4]);
             let (proved, stack) = seconds_on_stack(&mut || {
-                got = plain::derive(black_box(&file), black_box(&mut buffer))
+                got = direct::derive(black_box(&file), black_box(&mut buffer))
             });
             let mut expected = None;
             let peer = seconds(|| expected = writer::derive(&rules_of(black_box(&file)), 65_536));
@@ -406,7 +734,7 @@ mod bench {
             };
             let steps = &buffer[..got.1[0] as usize];
             assert!(got.0 == 0 && *steps == expected);
-            let check = seconds_on_stack(&mut || got = plain::check(&file, black_box(steps))).0;
+            let check = seconds_on_stack(&mut || got = direct::check(&file, black_box(steps))).0;
             let lines = peer::to_words(&expected)[expected.len() / 4 - 3];
             println!(
                 "{begin} {lines} | {} | {} | {:.0} | {times} | {} | {} | {stack} |",
@@ -468,17 +796,17 @@ mod bench {
         ] {
             let file = rule.bytes();
             let expected = answer::reading(&rules::read(&file));
-            assert_eq!(plain::read(&file), (0, expected.out([0; 4])));
+            assert_eq!(direct::read(&file), (0, expected.out([0; 4])));
             let expected = answer::read_small(&file);
             assert_eq!(
-                plain::read_small(&file),
+                direct::read_small(&file),
                 (expected.code, expected.out([0; 4]))
             );
-            let read = seconds_on_stack(&mut many(|| plain::read(black_box(&file)))).0;
+            let read = seconds_on_stack(&mut many(|| direct::read(black_box(&file)))).0;
             let peer = seconds(many(|| rules::read(black_box(&file))));
             let [mut time, mut to_read, mut stack] = ["-"; 3].map(str::to_string);
             if expected.code == 0 {
-                let small = seconds_on_stack(&mut many(|| plain::read_small(black_box(&file)))).0;
+                let small = seconds_on_stack(&mut many(|| direct::read_small(black_box(&file)))).0;
                 (time, to_read) = (ns(small), ratio(small, read));
                 stack = read_small_on_stack(&file).1.to_string();
             }
@@ -531,7 +859,7 @@ mod bench {
         println!("| rule file | n | m | bytes | new bytes | repair, ns | read, ns | copy, ns | repair / (read + copy) | peer, ns | repair / peer | stack, bytes |");
         println!("|---|--:|--:|--:|--:|--:|--:|--:|--:|--:|--:|--:|");
         let readable = in_order().bytes();
-        assert_eq!(plain::read(&readable).0, 0);
+        assert_eq!(direct::read(&readable).0, 0);
         for (name, rule) in [
             ("nothing to do", in_order()),
             ("falling, with repeats and opposites", falling()),
@@ -540,12 +868,15 @@ mod bench {
             assert_eq!(file.len(), readable.len());
             let mut buffer = vec![0; file.len()];
             let expected = answer::repair(&file, file.len());
-            assert_eq!(plain::repair(&file, &mut buffer), (0, expected.out([0; 4])));
+            assert_eq!(
+                direct::repair(&file, &mut buffer),
+                (0, expected.out([0; 4]))
+            );
             assert!(buffer.starts_with(&expected.written));
             let (time, stack) = seconds_on_stack(&mut many(|| {
-                plain::repair(black_box(&file), black_box(&mut buffer))
+                direct::repair(black_box(&file), black_box(&mut buffer))
             }));
-            let read = seconds_on_stack(&mut many(|| plain::read(black_box(&readable)))).0;
+            let read = seconds_on_stack(&mut many(|| direct::read(black_box(&readable)))).0;
             let copy = seconds_on_stack(&mut many(|| {
                 black_box(&mut buffer).copy_from_slice(black_box(&readable))
             }))
@@ -568,6 +899,8 @@ mod bench {
     }
 
     pub fn main() {
+        hard();
+        println!();
         trees();
         println!();
         derivations();

@@ -2,8 +2,9 @@
  * mean and where each refusal's border lies is in docs/FORMATS.md.
  *
  * Each of the nine functions returns 0 for an answer, else the number of the refusal. The answer depends on the
- * arguments alone; several threads may call at once. The whole is the product of the totals of all variables: the value
- * of the formula, out of the whole, is the maximum probability that every clause holds.
+ * arguments alone; several threads may call at once, and a call takes under 640 KiB of a thread's stack. The whole is
+ * the product of the totals of all variables: the value of the formula, out of the whole, is the maximum probability
+ * that every clause holds.
  *
  * Buffers
  *   rule, derivation   lent for reading only: no byte of them changes. `rule` holds `len` bytes and `derivation` holds

@@ -1,4 +1,4 @@
-//! Links the proved solver's static library, `libssat_c.a`.
+//! Links the proved solver's static libraries, `libssat_c.a` and, with document 01's plain forms, `libplain_c.a`.
 
 use std::env;
 use std::path::PathBuf;
@@ -14,14 +14,16 @@ fn main() {
         Some(directory) => PathBuf::from(directory),
         None => PathBuf::from(env::var_os("CARGO_MANIFEST_DIR").unwrap()).join("../../target/staticlib"),
     };
-    let library = directory.join("libssat_c.a");
-    println!("cargo:rerun-if-changed={}", library.display());
-    if !library.is_file() {
-        eprintln!("error: {} is missing.", library.display());
-        eprintln!("Build it with `rt staticlib ssat_c`, or name its directory in SSAT_LIB_DIR.");
-        eprintln!("To build the peer alone: `--features no-ffi`.");
-        exit(1);
-    }
     println!("cargo:rustc-link-search=native={}", directory.display());
-    println!("cargo:rustc-link-lib=static=ssat_c");
+    for name in ["ssat_c", "plain_c"] {
+        let library = directory.join(format!("lib{name}.a"));
+        println!("cargo:rerun-if-changed={}", library.display());
+        if !library.is_file() {
+            eprintln!("error: {} is missing.", library.display());
+            eprintln!("Build it with `rt staticlib {name}`, or name its directory in SSAT_LIB_DIR.");
+            eprintln!("To build the peer alone: `--features no-ffi`.");
+            exit(1);
+        }
+        println!("cargo:rustc-link-lib=static={name}");
+    }
 }

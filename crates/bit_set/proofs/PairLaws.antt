@@ -19,7 +19,7 @@ use Rattle.bit_set.proofs.BitSetLaws.{has-none, has-including}
 use Rattle.bit_set.proofs.DigitLaws.{has-shifted, has-both, lowest-is-least, trailing-first}
 use Rattle.bit_set.proofs.PartLaws.{has-union, has-within, has-lowest, has-later}
 
-some-number : (k s : ℕ) → s < 2 ^ k → s ≢ 0 → (x : ℕ) × (has s x ≡ true)
+pub some-number : (k s : ℕ) → s < 2 ^ k → s ≢ 0 → (x : ℕ) × (has s x ≡ true)
 some-number k s small n = let (_, (is, _)) = trailing-first k s (pos-of-ne-zero n) small in (trailingZeros k s, is)
 
 -- what the shift by l leaves is over 1 exactly where the set has a number over l
@@ -66,7 +66,7 @@ alone-iff k s x small = go (ℕ-discrete s 0) (ℕ-discrete (bitAnd s (s - 1)) 0
         let least : has s t ≡ true = says n t ∙ rw (eq-eqb t t refl, or-true) in
         rw (ne-eqb (bitAnd s (s - 1)) 0 m) (λ h. absurd (false≢true (sym (has-none x) ∙ h)), λ h. absurd (other (h .1 y is ∙ sym (h .1 t least))))
 
-has-evens : (k x : ℕ) → (has (evens k) (2 * x) ≡ ltb x k) × (has (evens k) (2 * x + 1) ≡ false)
+pub has-evens : (k x : ℕ) → (has (evens k) (2 * x) ≡ ltb x k) × (has (evens k) (2 * x + 1) ≡ false)
 unfolding evens has
 has-evens zero x = (has-none (2 * x) ∙ sym (le-ltb x 0 (omega arith)), has-none (2 * x + 1))
 has-evens (suc k) zero = (has-lowest 1 (evens k) (omega arith) 0 (omega arith) ∙ sym (lt-ltb 0 (suc k) (omega arith)), has-lowest 1 (evens k) (omega arith) 1 (omega arith))
@@ -79,7 +79,7 @@ has-evens (suc k) (suc x) =
     )
 
 -- they and the numbers after them are within 64 bits
-evens-small : 2 * evens 32 < 2 ^ 64
+pub evens-small : 2 * evens 32 < 2 ^ 64
 unfolding evens
 evens-small = omega arith
 

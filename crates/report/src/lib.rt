@@ -1,13 +1,13 @@
 // The text that the program prints for a rule file, byte for byte.
-use bounds::cut_of;
 use buffer::put_line;
-use node::table;
 use rule_file::Header;
 use rule_file::Reading;
 use rule_file::Refusal;
 use rule_file::limits::MAX_CLAUSES;
+use rule_file::masks::clause_masks;
 use rule_file::read;
-use value::figure_of;
+use search::cut_of;
+use search::figure_of;
 ghost use mathlib.Core.Path.{_≡_};
 ghost use Prim.Native.Nat.{_+_, _*_, _≤_, suc};
 ghost use lib.ListN.{length, take, drop};
@@ -15,7 +15,7 @@ ghost use Rattle.io.specs.Counts.{Counts};
 ghost use Rattle.buffer.specs.Text.{Put};
 ghost use Rattle.rule_file.specs.Limits.{max-variables};
 ghost use Rattle.rule_file.specs.Accepted.{Accepted, header as header-of};
-ghost use Rattle.node.specs.Node.{Opened};
+ghost use Rattle.search.specs.Level.{Listed};
 ghost use Rattle.report.specs.Report.{refusal-line, cut-line, cut-lines, head-text, accepted-text, report-text};
 
 // A refusal's line, with its place where there is one: at most 50 bytes.
@@ -40,7 +40,7 @@ fn put_cut(
     out: &mut [u8],
     at: usize,
 ) -> usize
-    requires { ⌜ Opened (now rule) header (now masks) ⌝ }
+    requires { ⌜ Listed (now rule) header (now masks) ⌝ }
     requires { ⌜ level ≤ header .variables ⌝ }
     requires { ⌜ at + 88 ≤ length (now out) ⌝ }
     ensures { λ r. ⌜ Put (now (out .entry)) at (cut-line (now (rule .entry)) level) (now (out .exit)) r ⌝ }
@@ -63,7 +63,7 @@ fn put_cuts(
     out: &mut [u8],
     at: usize,
 ) -> usize
-    requires { ⌜ Opened (now rule) header (now masks) ⌝ }
+    requires { ⌜ Listed (now rule) header (now masks) ⌝ }
     requires { ⌜ at + 88 * suc max-variables ≤ length (now out) ⌝ }
     ensures { λ r. ⌜ Put (now (out .entry)) at (cut-lines (now (rule .entry)) (suc (header .variables))) (now (out .exit)) r ⌝ }
 {
@@ -96,7 +96,7 @@ fn put_accepted(rule: &[u8], header: Header, out: &mut [u8]) -> usize
     requires { ⌜ 3015 ≤ length (now out) ⌝ }
     ensures { λ r. ⌜ Put (now (out .entry)) 0 (accepted-text (now (rule .entry))) (now (out .exit)) r ⌝ }
 {
-    let masks = table(rule, header);
+    let masks = clause_masks(rule, header);
     let figure = figure_of(rule, header, &masks);
     let end = put_head(header, figure, out);
     put_cuts(rule, header, &masks, out, end)

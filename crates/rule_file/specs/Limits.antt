@@ -44,6 +44,6 @@ bench-limits = record { bytes = max-bytes; variables = max-variables; ordered = 
 abbrev pub small-limits : Limits
 small-limits = record { bytes = small-bytes; variables = small-variables; ordered = true }
 
--- what a repair takes: a file stored before clauses had to be in order
+-- what a repair takes: the bench's limits, with the literals of a clause in any order
 abbrev pub stored-limits : Limits
 stored-limits = record { bytes = max-bytes; variables = max-variables; ordered = false }

@@ -10,7 +10,6 @@
 // line the length of the name and the limits, or `other`. A tally's line is the verdict's number alone, and the counts
 // after it.
 use bounds::Cutting;
-use bounds::cut;
 use clause_reader::cursor::Cursor;
 use clause_reader::cursor::Step;
 use clause_reader::cursor::clause_at;
@@ -33,6 +32,9 @@ use rule_file::read;
 use rule_file::read_small;
 use rule_file::words::part;
 use rule_file::words::word;
+use search::cut;
+use search::figure;
+use search::verdict;
 use std::num::wrapping_add_usize;
 use tally::Tally;
 use tally::begin;
@@ -40,8 +42,6 @@ use tally::kind_of;
 use tally::step;
 use value::Figuring;
 use value::Judging;
-use value::figure;
-use value::verdict;
 use writer::Deriving;
 use writer::derive;
 ghost use Prim.Native.Nat.{_<_};

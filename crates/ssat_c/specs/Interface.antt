@@ -1,44 +1,13 @@
--- An answer as the exported functions hand it over: a number returned, and four numbers stored. Assumes nothing.
+-- The four numbers that are stored for an answer of the readers, of the check, of the writer and of the repair;
+-- c_answer/specs/CAnswer has those of figure, verdict and cut. Assumes nothing.
 use mathlib.Core.List.{List, [], _∷_}
-use mathlib.Core.Option.{Option, none, some}
 use Prim.Native.Nat.{ℕ}
-use lib.ListN.{set}
-use lib.Seq.{sets}
-use Rattle.rule_file.specs.Answer.{Answer, refused, answer, number-of, place-of}
 use Rattle.rule_file.specs.declared.Header.{Header}
-use Rattle.value.specs.declared.Ratio.{Ratio}
-use Rattle.value.specs.Value.{Verdict, above, below, within}
-use Rattle.bounds.specs.declared.Bounds.{Bounds}
 use Rattle.derivation.specs.declared.Closing.{Closing}
 use Rattle.repair.specs.declared.Repairs.{Repairs}
 
--- 0 for an answer, else the refusal's number
-abbrev pub code : {A : Type 0} → Answer A → ℕ
-code (refused r) = number-of r
-code (answer x) = 0
-
--- out afterwards: an answer's four numbers; a refusal leaves it, and stores the place alone where it names one
-abbrev pub placed : Option ℕ → List ℕ → List ℕ
-placed none out = out
-placed (some i) out = set out 0 i
-
-abbrev pub filled : {A : Type 0} → (A → List ℕ) → Answer A → List ℕ → List ℕ
-filled values (refused r) out = placed (place-of r) out
-filled values (answer x) out = sets out 0 (values x)
-
 abbrev pub header-values : Header → List ℕ
 header-values h = h .variables ∷ h .clauses ∷ h .prefix ∷ h .whole ∷ []
-
-abbrev pub ratio-values : Ratio → List ℕ
-ratio-values x = x .figure ∷ x .whole ∷ 0 ∷ 0 ∷ []
-
-abbrev pub verdict-values : Verdict → List ℕ
-verdict-values above = 1 ∷ 0 ∷ 0 ∷ 0 ∷ []
-verdict-values below = 2 ∷ 0 ∷ 0 ∷ 0 ∷ []
-verdict-values (within x) = 0 ∷ x ∷ 0 ∷ 0 ∷ []
-
-abbrev pub bounds-values : Bounds → List ℕ
-bounds-values x = x .lower ∷ x .upper ∷ x .undetermined ∷ 0 ∷ []
 
 abbrev pub closing-values : Closing → List ℕ
 closing-values x = x .value ∷ x .whole ∷ 0 ∷ 0 ∷ []

@@ -1,2 +1,2 @@
--- What the exported functions return and store.
+-- What the exported functions store.
 pub mod Interface

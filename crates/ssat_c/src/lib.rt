@@ -1,7 +1,10 @@
 // The operations for programs in other languages: numbers in, a number out, and the values in an array or a tally that
 // the caller lends. include/ssat.h declares them.
-use bounds::Cutting;
-use bounds::cut;
+use c_answer::fill;
+use c_answer::hand_cut;
+use c_answer::hand_figure;
+use c_answer::hand_verdict;
+use c_answer::refuse;
 use derivation::Checking;
 use derivation::check;
 use repair::Repairing;
@@ -10,21 +13,19 @@ use rule_file::Reading;
 use rule_file::Refusal;
 use rule_file::read;
 use rule_file::read_small;
+use search::cut;
+use search::figure;
+use search::verdict;
 use tally::Kind;
 use tally::Tally;
 use tally::absorb;
 use tally::kind_of;
-use value::Figuring;
 use value::Judging;
-use value::figure;
-use value::verdict;
 use writer::Deriving;
 use writer::derive;
 ghost use mathlib.Core.Path.{_≡_};
 ghost use lib.ListN.{length};
-ghost use lib.Seq.{sets};
-ghost use mathlib.Core.List.{[], _∷_};
-ghost use Rattle.rule_file.specs.Answer.{number-of, place-of, buffer-after};
+ghost use Rattle.rule_file.specs.Answer.{buffer-after};
 ghost use Rattle.rule_file.specs.Reader.{reading, read-file, read-small};
 ghost use Rattle.value.specs.Value.{judging, figure-file, verdict-file};
 ghost use Rattle.bounds.specs.Cut.{cut-file};
@@ -32,33 +33,8 @@ ghost use Rattle.derivation.specs.Check.{check-file};
 ghost use Rattle.writing.specs.Derive.{derive-file, length-of};
 ghost use Rattle.repair.specs.Repair.{repair-file, repair-answer};
 ghost use Rattle.tally.specs.Tally.{kind-of, step};
-ghost use Rattle.ssat_c.specs.Interface.{code, placed, filled, header-values, ratio-values, verdict-values, bounds-values, closing-values, length-values, repair-values};
-
-// An answer fills out and returns 0.
-fn fill(out: &mut [u64; 4], a: u64, b: u64, c: u64, d: u64) -> u32
-    ensures { λ r. ⌜ r ≡ 0 ⌝ }
-    ensures { λ _. ⌜ now (out .exit) ≡ sets (now (out .entry)) 0 (a ∷ b ∷ c ∷ d ∷ []) ⌝ }
-{
-    out[0] = a;
-    out[1] = b;
-    out[2] = c;
-    out[3] = d;
-    0
-}
-
-// A refusal returns its number, and stores its place where it names one; all else in out stays.
-fn refuse(out: &mut [u64; 4], refusal: Refusal) -> u32
-    ensures { λ r. ⌜ r ≡ number-of refusal ⌝ }
-    ensures { λ _. ⌜ now (out .exit) ≡ placed (place-of refusal) (now (out .entry)) ⌝ }
-{
-    match refusal {
-        Refusal::Alone(number) => number,
-        Refusal::At(number, place) => {
-            out[0] = place as u64;
-            number
-        }
-    }
-}
+ghost use Rattle.c_answer.specs.CAnswer.{code, filled, ratio-values, verdict-values, bounds-values};
+ghost use Rattle.ssat_c.specs.Interface.{header-values, closing-values, length-values, repair-values};
 
 // n, m, prefix start, whole, of either reader.
 fn hand_over(out: &mut [u64; 4], result: Reading) -> u32
@@ -96,32 +72,22 @@ pub extern "C" fn ssat_read_small(rule: &[u8], out: &mut [u64; 4]) -> u32
     hand_over(out, read_small(rule))
 }
 
-// Figure, whole.
 #[no_mangle]
 pub extern "C" fn ssat_figure(rule: &[u8], out: &mut [u64; 4]) -> u32
     ensures returned { λ r. ⌜ r ≡ code (figure-file (now (rule .entry))) ⌝ }
     ensures stored { λ _. ⌜ now (out .exit) ≡ filled ratio-values (figure-file (now (rule .entry))) (now (out .entry)) ⌝ }
     ensures unchanged { λ _. ⌜ now (rule .exit) ≡ now (rule .entry) ⌝ }
 {
-    match figure(rule) {
-        Figuring::Refused(refusal) => refuse(out, refusal),
-        Figuring::Answered(x) => fill(out, x.figure, x.whole, 0, 0),
-    }
+    hand_figure(out, figure(rule))
 }
 
-// 0 within, 1 above, 2 below; the figure where within, else 0.
 #[no_mangle]
 pub extern "C" fn ssat_verdict(rule: &[u8], lo: u64, hi: u64, out: &mut [u64; 4]) -> u32
     ensures returned { λ r. ⌜ r ≡ code (verdict-file (now (rule .entry)) lo hi) ⌝ }
     ensures stored { λ _. ⌜ now (out .exit) ≡ filled verdict-values (verdict-file (now (rule .entry)) lo hi) (now (out .entry)) ⌝ }
     ensures unchanged { λ _. ⌜ now (rule .exit) ≡ now (rule .entry) ⌝ }
 {
-    match verdict(rule, lo, hi) {
-        Judging::Refused(refusal) => refuse(out, refusal),
-        Judging::Above => fill(out, 1, 0, 0, 0),
-        Judging::Below => fill(out, 2, 0, 0, 0),
-        Judging::Within(figure) => fill(out, 0, figure, 0, 0),
-    }
+    hand_verdict(out, verdict(rule, lo, hi))
 }
 
 // A refusal's number, else 0.
@@ -168,17 +134,13 @@ pub extern "C" fn ssat_tally(rule: &[u8], lo: u64, hi: u64, tally: &mut Tally) -
     judged.number
 }
 
-// Lower, upper, open weight.
 #[no_mangle]
 pub extern "C" fn ssat_cut(rule: &[u8], level: u64, out: &mut [u64; 4]) -> u32
     ensures returned { λ r. ⌜ r ≡ code (cut-file (now (rule .entry)) level) ⌝ }
     ensures stored { λ _. ⌜ now (out .exit) ≡ filled bounds-values (cut-file (now (rule .entry)) level) (now (out .entry)) ⌝ }
     ensures unchanged { λ _. ⌜ now (rule .exit) ≡ now (rule .entry) ⌝ }
 {
-    match cut(rule, level) {
-        Cutting::Refused(refusal) => refuse(out, refusal),
-        Cutting::Answered(x) => fill(out, x.lower, x.upper, x.undetermined, 0),
-    }
+    hand_cut(out, cut(rule, level))
 }
 
 // Closing value, whole.

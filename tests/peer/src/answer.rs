@@ -6,6 +6,7 @@ use crate::enumerate;
 use crate::list::{self, Kind, Tally};
 use crate::repair::{self, Repaired};
 use crate::rules::{self, Fault, Rules};
+use crate::search::{self, Verdict};
 use crate::tables::Tables;
 use crate::writer;
 
@@ -46,35 +47,60 @@ impl Answer {
     }
 }
 
+/// How figure, verdict and cut are found.
+enum Method<'a> {
+    Enumeration,
+    Tables(Tables<'a>),
+    Search,
+}
+
 /// Answers for one rule file.
 pub struct Solver<'a> {
     rules: &'a Result<Rules, Fault>,
-    tables: Option<Tables<'a>>,
+    method: Method<'a>,
 }
 
 impl<'a> Solver<'a> {
     pub fn new(rules: &'a Result<Rules, Fault>) -> Solver<'a> {
-        let tables = match rules {
-            Ok(rules) if rules.n() > MOST_ENUMERATED => Some(Tables::new(rules)),
-            _ => None,
+        let method = match rules {
+            Ok(rules) if rules.n() > MOST_ENUMERATED => Method::Tables(Tables::new(rules)),
+            _ => Method::Enumeration,
         };
-        Solver { rules, tables }
+        Solver { rules, method }
+    }
+
+    /// Answers by the search.
+    pub fn by_search(rules: &'a Result<Rules, Fault>) -> Solver<'a> {
+        Solver { rules, method: Method::Search }
     }
 
     /// The value of an accepted file.
     fn value(&self, rules: &Rules) -> u128 {
-        match &self.tables {
-            Some(tables) => tables.value(),
-            None => enumerate::value(rules),
+        match &self.method {
+            Method::Enumeration => enumerate::value(rules),
+            Method::Tables(tables) => tables.value(),
+            Method::Search => search::value(rules).into(),
+        }
+    }
+
+    /// How the value of an accepted file lies to limits.
+    fn verdict_of(&self, rules: &Rules, lo: u64, hi: u64) -> Verdict {
+        if let Method::Search = self.method {
+            return search::verdict(rules, lo, hi);
+        }
+        match self.value(rules) as u64 {
+            value if value > hi => Verdict::Above,
+            value if value < lo => Verdict::Below,
+            value => Verdict::Within(value),
         }
     }
 
     /// A bound on the nodes of the plain tree that stops at decided nodes; 0 for a refused
     /// file.
     pub fn nodes(&self) -> u128 {
-        match (self.rules, &self.tables) {
-            (Ok(rules), Some(tables)) => tables.nodes(rules.n()),
-            (Ok(rules), None) => 2 << rules.n(),
+        match (self.rules, &self.method) {
+            (Ok(rules), Method::Tables(tables)) => tables.nodes(rules.n()),
+            (Ok(rules), _) => 2 << rules.n(),
             (Err(_), _) => 0,
         }
     }
@@ -97,21 +123,17 @@ impl<'a> Solver<'a> {
 
     pub fn verdict(&self, lo: u64, hi: u64) -> Answer {
         self.with(|rules| {
-            let (lo, hi) = (u128::from(lo), u128::from(hi));
             if lo > hi {
                 return Answer::refused((10, None));
             }
-            if hi > rules.whole() {
+            if u128::from(hi) > rules.whole() {
                 return Answer::refused((11, None));
             }
-            let value = self.value(rules);
-            if value > hi {
-                Answer::numbers(&[1, 0])
-            } else if value < lo {
-                Answer::numbers(&[2, 0])
-            } else {
-                Answer::numbers(&[0, value])
-            }
+            Answer::numbers(&match self.verdict_of(rules, lo, hi) {
+                Verdict::Above => [1, 0],
+                Verdict::Below => [2, 0],
+                Verdict::Within(value) => [0, value.into()],
+            })
         })
     }
 
@@ -128,9 +150,10 @@ impl<'a> Solver<'a> {
                 return Answer::refused((12, None));
             }
             let level = level as usize;
-            Answer::numbers(&match &self.tables {
-                Some(tables) => tables.cut(level),
-                None => enumerate::cut(rules, level),
+            Answer::numbers(&match &self.method {
+                Method::Enumeration => enumerate::cut(rules, level),
+                Method::Tables(tables) => tables.cut(level),
+                Method::Search => search::cut(rules, level).map(u128::from),
             })
         })
     }

@@ -1,4 +1,5 @@
-//! The proved solver through its C interface, with buffers that end or begin at a guard page.
+//! The proved solver through its C interface, with buffers that end or begin at a guard page; and document 01's plain
+//! forms of figure, verdict and cut, which are proved too and which the interface's search is compared with.
 
 use crate::guard::{call_on_stack, Guarded};
 
@@ -13,6 +14,9 @@ mod raw {
         pub fn ssat_derive(rule: *const u8, len: usize, buffer: *mut u8, capacity: usize, out: *mut u64) -> u32;
         pub fn ssat_repair(rule: *const u8, len: usize, buffer: *mut u8, capacity: usize, out: *mut u64) -> u32;
         pub fn ssat_tally(rule: *const u8, len: usize, lo: u64, hi: u64, tally: *mut u64) -> u32;
+        pub fn plain_figure(rule: *const u8, len: usize, out: *mut u64) -> u32;
+        pub fn plain_verdict(rule: *const u8, len: usize, lo: u64, hi: u64, out: *mut u64) -> u32;
+        pub fn plain_cut(rule: *const u8, len: usize, level: u64, out: *mut u64) -> u32;
     }
 }
 
@@ -102,7 +106,7 @@ impl Lent {
     }
 }
 
-/// The static library, with its buffers.
+/// The static libraries, with their buffers.
 pub struct Library {
     rule: Lent,
     derivation: Lent,
@@ -187,6 +191,18 @@ impl Library {
         self.call(|rule, len, _, _, out| unsafe { raw::ssat_cut(rule, len, level, out) })
     }
 
+    pub fn plain_figure(&mut self) -> Returned {
+        self.call(|rule, len, _, _, out| unsafe { raw::plain_figure(rule, len, out) })
+    }
+
+    pub fn plain_verdict(&mut self, lo: u64, hi: u64) -> Returned {
+        self.call(|rule, len, _, _, out| unsafe { raw::plain_verdict(rule, len, lo, hi, out) })
+    }
+
+    pub fn plain_cut(&mut self, level: u64) -> Returned {
+        self.call(|rule, len, _, _, out| unsafe { raw::plain_cut(rule, len, level, out) })
+    }
+
     pub fn check(&mut self) -> Returned {
         self.call(|rule, len, derivation, dlen, out| unsafe { raw::ssat_check(rule, len, derivation, dlen, out) })
     }
@@ -215,8 +231,8 @@ pub fn read_small_on_stack(rule: &[u8]) -> (Returned, usize) {
     ((code, out), used)
 }
 
-/// Plain calls on slices, for the benchmark.
-pub mod plain {
+/// Calls on slices, without guard pages, for the benchmark.
+pub mod direct {
     use super::{raw, Returned};
 
     pub fn read(rule: &[u8]) -> Returned {
@@ -232,6 +248,11 @@ pub mod plain {
     pub fn figure(rule: &[u8]) -> Returned {
         let mut out = [0; 4];
         (unsafe { raw::ssat_figure(rule.as_ptr(), rule.len(), out.as_mut_ptr()) }, out)
+    }
+
+    pub fn verdict(rule: &[u8], lo: u64, hi: u64) -> Returned {
+        let mut out = [0; 4];
+        (unsafe { raw::ssat_verdict(rule.as_ptr(), rule.len(), lo, hi, out.as_mut_ptr()) }, out)
     }
 
     pub fn cut(rule: &[u8], level: u64) -> Returned {

@@ -4,7 +4,7 @@
 //! `ssat_tally`, by its own methods, so that the two can be compared. A set of literals is kept as a 64-bit mask (bit
 //! `l` for literal `l`): with at most 32 variables every literal is under 64.
 //!
-//! The library links `libssat_c.a` from the directory in SSAT_LIB_DIR (a relative one is taken
+//! The library links `libssat_c.a` and `libplain_c.a` from the directory in SSAT_LIB_DIR (a relative one is taken
 //! from this package), else from `../../target/staticlib`. The tests run `ssat_tally` from the
 //! directory in SSAT_BIN_DIR, else from `../../target/bin`. With `--features no-ffi` the library links
 //! nothing and the tests that need the proved solver are left out.
@@ -31,6 +31,7 @@ pub mod random;
 pub mod repair;
 pub mod rules;
 pub mod samples;
+pub mod search;
 pub mod tables;
 pub mod walk;
 pub mod writer;

@@ -1,10 +1,11 @@
 //! Notions of a clash that are nearly document 02's. Random files are to tell them from it: those cuts are counted that
 //! have other numbers by another notion. `lists` has the same for job lists, `readers` for the
-//! small reader, `repairs` for the repair.
+//! small reader, `repairs` for the repair, `searches` for the search.
 
 pub mod lists;
 pub mod readers;
 pub mod repairs;
+pub mod searches;
 
 use crate::enumerate::{clash, cut, cut_with, Clash, Node};
 use crate::rules::Rules;

@@ -8,6 +8,7 @@ use peer::near::{self, Told};
 use peer::random::Random;
 use peer::repair::{self, Mended};
 use peer::rules::{self, Fault, Rules, REPAIR};
+use peer::search::{self, Verdict};
 use peer::tables::Tables;
 use peer::writer::{self, DerivationDraft, Limits, LineDraft};
 use peer::{derivation, enumerate, to_bytes, to_words, walk};
@@ -190,6 +191,80 @@ fn methods_agree() {
         }
         assert_eq!(before, [value, value]);
     }
+}
+
+/// Fails unless the search gives this value, the verdicts with limits around it, and these cuts.
+fn search_gives(rules: &Rules, value: u128, cut: impl Fn(usize) -> [u128; 3]) {
+    let (value, whole) = (value as u64, rules.whole() as u64);
+    assert_eq!(search::value(rules), value, "{rules:?}");
+    for (lo, hi) in generate::limits_around(value, whole) {
+        let wanted = match value {
+            _ if value > hi => Verdict::Above,
+            _ if value < lo => Verdict::Below,
+            _ => Verdict::Within(value),
+        };
+        assert_eq!(search::verdict(rules, lo, hi), wanted, "limits {lo} {hi} of {rules:?}");
+    }
+    let cuts = search::cuts(rules);
+    assert_eq!(cuts.len(), rules.n() + 1);
+    for (d, numbers) in cuts.into_iter().enumerate() {
+        assert_eq!(numbers.map(u128::from), cut(d), "level {d} of {rules:?}");
+        assert_eq!(search::cut(rules, d), numbers, "level {d} of {rules:?}");
+    }
+}
+
+/// The search agrees with enumeration and tables.
+#[test]
+fn search_agrees() {
+    let mut random = Random::new(13);
+    for round in 0..40_000 {
+        let draft = match round % 20 {
+            0 => generate::small_rule(&mut random, 14),
+            1..6 => generate::small_clashing_rule(&mut random, 7),
+            6..8 => generate::small_clashing_rule(&mut random, 10),
+            _ => generate::small_rule(&mut random, 8),
+        };
+        let rules = rules_of(&draft);
+        if rules.n() <= 7 {
+            search_gives(&rules, enumerate::value(&rules), |d| enumerate::cut(&rules, d));
+        } else {
+            let tables = Tables::new(&rules);
+            search_gives(&rules, tables.value(), |d| tables.cut(d));
+        }
+    }
+}
+
+/// The search agrees with the tables on files that have many clauses or need a good search.
+#[test]
+fn search_agrees_on_hard_files() {
+    let mut random = Random::new(14);
+    for round in 0..400 {
+        let draft = match round % 4 {
+            0 => generate::long_rule(&mut random),
+            _ => {
+                let family = generate::family(&mut random, 10, 15);
+                generate::hard_rule(&mut random, family)
+            }
+        };
+        let rules = rules_of(&draft);
+        let tables = Tables::new(&rules);
+        search_gives(&rules, tables.value(), |d| tables.cut(d));
+    }
+}
+
+/// Random files tell the search from what is nearly it.
+#[test]
+fn near_searches_are_told() {
+    let mut random = Random::new(15);
+    let mut told = near::searches::Told::default();
+    for round in 0..10_000 {
+        let draft = match round % 2 {
+            0 => generate::small_rule(&mut random, 6),
+            _ => generate::small_clashing_rule(&mut random, 6),
+        };
+        told.take(&rules_of(&draft));
+    }
+    told.reached(100);
 }
 
 /// Random files tell document 02's clash from what is nearly one.

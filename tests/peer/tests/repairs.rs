@@ -8,7 +8,7 @@ mod common;
 
 use common::{program, random, rounds, Pair, FIGURE, READ, REPAIR};
 use peer::answer::repair;
-use peer::ffi::{plain, Library, Place, LONGEST};
+use peer::ffi::{direct, Library, Place, LONGEST};
 use peer::generate::{self, RuleDraft};
 use peer::near::repairs::Told;
 use peer::repair::REFUSALS;
@@ -190,7 +190,7 @@ fn small_stack() {
     let rule = rule.bytes();
     let mut buffer = vec![0; 65_536];
     let mut answer = (0, [0; 4]);
-    let used = peer::guard::on_stack(1 << 20, &mut || answer = plain::repair(&rule, &mut buffer));
+    let used = peer::guard::on_stack(1 << 20, &mut || answer = direct::repair(&rule, &mut buffer));
     println!("small_stack: {used} bytes of stack used");
     assert_eq!(answer, (0, [65_536, 0, 0, 1_023]));
     assert_eq!(to_words(&buffer), generate::longest_rule([1, 2]).words());

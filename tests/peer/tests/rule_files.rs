@@ -6,10 +6,14 @@
 #[allow(dead_code)]
 mod common;
 
-use common::{random, rounds, Pair, CHECK, CUT, DERIVE, FIGURE, NAMING, READ, READ_SMALL, REPAIR, VERDICT};
-use peer::ffi::{plain, Place};
+use common::{
+    random, rounds, Pair, CHECK, CUT, DERIVE, FIGURE, NAMING, PLAIN_CUT, PLAIN_FIGURE, PLAIN_VERDICT, READ, READ_SMALL,
+    REPAIR, VERDICT,
+};
+use peer::answer::Solver;
+use peer::ffi::{direct, Place};
 use peer::generate::{self, RuleDraft};
-use peer::near::Told;
+use peer::near::{searches, Told};
 use peer::repair;
 use peer::rules;
 use peer::writer::{DerivationDraft, LineDraft};
@@ -24,9 +28,11 @@ fn valid_files() {
         pair.rule(&mut random, &draft.bytes());
     }
     pair.report("valid_files");
-    pair.reached(FIGURE, [0], 35_000);
-    pair.reached(VERDICT, [0, 10, 11], 1_000);
-    pair.reached(CUT, [0, 12], 10_000);
+    for (figure, verdict, cut) in [(FIGURE, VERDICT, CUT), (PLAIN_FIGURE, PLAIN_VERDICT, PLAIN_CUT)] {
+        pair.reached(figure, [0], 35_000);
+        pair.reached(verdict, [0, 10, 11], 1_000);
+        pair.reached(cut, [0, 12], 10_000);
+    }
     pair.reached(DERIVE, [0, 22], 70_000);
     pair.reached(CHECK, [0], 35_000);
     pair.reached(REPAIR, [0, 25], 35_000);
@@ -35,19 +41,23 @@ fn valid_files() {
     pair.tallied.reached(1_000);
 }
 
-/// Files in which clauses clash or nearly do: enough cuts tell document 02's clash from what is nearly one.
+/// Files in which clauses clash or nearly do: enough of them tell document 02's clash from what is nearly one, and the
+/// search from what is nearly it.
 #[test]
 fn clashing_files() {
     let (mut random, mut pair) = (random(111), Pair::new());
-    let mut told = Told::default();
+    let (mut told, mut searches) = (Told::default(), searches::Told::default());
     for _ in 0..rounds(10_000) {
         let bytes = generate::small_clashing_rule(&mut random, 6).bytes();
         if pair.rule(&mut random, &bytes) {
-            told.take(&rules::read(&bytes).unwrap());
+            let rules = rules::read(&bytes).unwrap();
+            told.take(&rules);
+            searches.take(&rules);
         }
     }
     pair.report("clashing_files");
     told.reached(500);
+    searches.reached(60);
     pair.clashed([2_000, 2_000, 1_000], 100);
 }
 
@@ -97,6 +107,27 @@ fn wide_files() {
     pair.reached(FIGURE, [0], 200);
     pair.reached(DERIVE, [0, 22], 300);
     pair.clashed([30, 300, 5], 0);
+}
+
+/// Files on which a good search is needed, small enough for the plain forms, with all their cuts.
+#[test]
+fn hard_files() {
+    let (mut random, mut pair) = (random(112), Pair::new());
+    for (count, least, most) in [(1_000, 10, 13), (300, 14, 16), (80, 17, 20)] {
+        for _ in 0..rounds(count) {
+            let family = generate::family(&mut random, least, most);
+            let bytes = generate::hard_rule(&mut random, family).bytes();
+            let rules = rules::read(&bytes);
+            let mut solvers = vec![Solver::by_search(&rules)];
+            if most <= 16 {
+                solvers.push(Solver::new(&rules));
+            }
+            pair.solve(&mut random, &bytes, rules.as_ref().unwrap(), &solvers);
+        }
+    }
+    pair.report("hard_files");
+    pair.reached(FIGURE, [0], 1_380);
+    assert!(pair.verdicts.iter().all(|count| *count > 1_000), "within, above, below: {:?}", pair.verdicts);
 }
 
 #[test]
@@ -253,6 +284,9 @@ fn read_only_pages() {
         library.verdict(0, 1);
         library.tally(0, 1, [0; 5]);
         library.cut(2);
+        library.plain_figure();
+        library.plain_verdict(0, 1);
+        library.plain_cut(2);
         library.check();
         library.derive(200, Place::AtEnd);
         library.repair(200, Place::AtEnd);
@@ -276,11 +310,11 @@ fn small_stack() {
     let mut buffer = [0; 4_096];
     let mut answers = Vec::new();
     let used = peer::guard::on_stack(1 << 20, &mut || {
-        answers.push(plain::figure(&deep));
-        answers.push(plain::cut(&deep, 32));
-        answers.push(plain::check(&rule, &steps));
-        answers.push(plain::derive(&deep, &mut buffer));
-        answers.push(plain::derive(&last, &mut buffer));
+        answers.push(direct::figure(&deep));
+        answers.push(direct::cut(&deep, 32));
+        answers.push(direct::check(&rule, &steps));
+        answers.push(direct::derive(&deep, &mut buffer));
+        answers.push(direct::derive(&last, &mut buffer));
     });
     println!("small_stack: {used} bytes of stack used");
     let whole = 3u64.pow(32);

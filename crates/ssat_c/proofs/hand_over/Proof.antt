@@ -2,7 +2,7 @@
 use mathlib.Core.Path.{ap}
 use Rattle.rule_file.specs.Reader.{reading}
 use Rattle.ssat_c.specs.Interface.{header-values}
-use Rattle.ssat_c.proofs.InterfaceLaws.{hand-refusal, hand-answer}
+use Rattle.c_answer.proofs.CAnswerLaws.{hand-refusal, hand-answer}
 use borrow.Author.Needs.{needs}
 use Rattle.ssat_c.proofs.hand_over.Statement.{statement}
 use Rattle.ssat_c.proofs.hand_over.Tie as tie

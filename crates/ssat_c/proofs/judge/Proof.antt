@@ -1,7 +1,7 @@
 -- `judge` meets its contract: the number and the kind are those of the verdict's answer. Assumes nothing.
 use mathlib.Core.Path.{ap, _∙_}
 use Rattle.tally.specs.Tally.{kind-of}
-use Rattle.ssat_c.specs.Interface.{code}
+use Rattle.c_answer.specs.CAnswer.{code}
 use borrow.Author.Needs.{needs}
 use Rattle.ssat_c.proofs.judge.Statement.{statement}
 use Rattle.ssat_c.proofs.judge.Tie as tie

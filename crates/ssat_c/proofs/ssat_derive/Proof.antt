@@ -2,7 +2,7 @@
 use mathlib.Core.Path.{refl, sym, ap, _∙_}
 use Rattle.writer.specs.Answer.{derive-answer}
 use Rattle.ssat_c.specs.Interface.{length-values}
-use Rattle.ssat_c.proofs.InterfaceLaws.{hand-refusal, hand-answer}
+use Rattle.c_answer.proofs.CAnswerLaws.{hand-refusal, hand-answer}
 use borrow.Author.Needs.{needs}
 use Rattle.ssat_c.proofs.ssat_derive.Statement.{statement}
 use Rattle.ssat_c.proofs.ssat_derive.Tie as tie

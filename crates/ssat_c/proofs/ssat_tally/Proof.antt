@@ -52,7 +52,7 @@ use Rattle.tally.proofs.absorb as absorb
 use Rattle.tally.proofs.absorb.Symbol as absorb-def
 use Rattle.tally.proofs.absorb.Symbol.{name as #absorb}
 use Rattle.tally.proofs.absorb.Met as absorb-thm
-use Rattle.ssat_c.specs.Interface.{code as number}
+use Rattle.c_answer.specs.CAnswer.{code as number}
 use Rattle.ssat_c.specs.declared.Judged.{Judged}
 use Rattle.ssat_c.proofs.Judged as J
 use Rattle.ssat_c.proofs.Judged.Laws as J′

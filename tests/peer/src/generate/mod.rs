@@ -3,12 +3,14 @@
 
 mod borders;
 mod derivations;
+mod hard;
 mod lists;
 mod rule_files;
 mod stored;
 
 pub use borders::*;
 pub use derivations::*;
+pub use hard::*;
 pub use lists::*;
 pub use rule_files::*;
 pub use stored::*;

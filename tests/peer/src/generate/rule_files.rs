@@ -171,6 +171,23 @@ pub fn long_rule(random: &mut Random) -> RuleDraft {
     draft
 }
 
+/// Limits of verdicts that ask for a value exactly: both at it, both one beside it, and one of them or both beside it.
+pub fn limits_around(value: u64, whole: u64) -> Vec<(u64, u64)> {
+    let (under, over) = (value.checked_sub(1), Some(value + 1).filter(|over| *over <= whole));
+    let at = Some(value);
+    let pairs = [
+        (at, at),
+        (under, under),
+        (over, over),
+        (under, over),
+        (under, at),
+        (at, over),
+        (Some(0), under),
+        (over, Some(whole)),
+    ];
+    pairs.into_iter().filter_map(|(lo, hi)| Some((lo?, hi?))).collect()
+}
+
 /// Damages the bytes of a rule file in one place.
 pub fn damage_rule(random: &mut Random, bytes: &mut Vec<u8>) {
     let mut words = to_words(bytes);

@@ -1,4 +1,5 @@
-//! Compares the proved solver with the peer, call by call, and counts what was answered.
+//! Compares the proved solver, its search and document 01's plain forms, with the peer, call by call, and counts what
+//! was answered.
 
 pub mod readings;
 pub mod repairs;
@@ -25,7 +26,22 @@ pub const CHECK: usize = 4;
 pub const DERIVE: usize = 5;
 pub const READ_SMALL: usize = 6;
 pub const REPAIR: usize = 7;
-const NAMES: [&str; 8] = ["read", "figure", "verdict", "cut", "check", "derive", "read_small", "repair"];
+pub const PLAIN_FIGURE: usize = 8;
+pub const PLAIN_VERDICT: usize = 9;
+pub const PLAIN_CUT: usize = 10;
+const NAMES: [&str; 11] = [
+    "read",
+    "figure",
+    "verdict",
+    "cut",
+    "check",
+    "derive",
+    "read_small",
+    "repair",
+    "plain figure",
+    "plain verdict",
+    "plain cut",
+];
 
 /// One more than the highest number that is returned.
 const NUMBERS: usize = 26;
@@ -166,11 +182,8 @@ impl Pair {
         if solver.nodes() * (m as u128 + 1) > MOST_STEPS {
             return false;
         }
-        let figure = solver.figure();
-        let got = self.library.figure();
-        self.same(FIGURE, &figure, got, input);
-
-        let value = figure.numbers.first().copied().unwrap_or(0);
+        let solvers = [solver, Solver::by_search(&rules)];
+        let value = self.figure(bytes, &solvers);
         let limits = [0, 1, value.saturating_sub(1), value, value, value + 1, whole / 2, whole - 1, whole];
         for _ in 0..4 {
             let (mut lo, mut hi) = (random.pick(&limits), random.pick(&limits));
@@ -183,12 +196,10 @@ impl Pair {
             if random.once_in(20) {
                 lo = random.pick(&[whole + 1, whole + 2, u64::MAX]);
             }
-            let verdict = solver.verdict(lo, hi);
-            let got = self.library.verdict(lo, hi);
-            self.same(VERDICT, &verdict, got, || format!("limits {lo} {hi}, {}", input()));
+            let verdict = self.verdict(bytes, &solvers, lo, hi);
 
             let tally = generate::tally(random);
-            let expected = solver.tally(lo, hi, tally);
+            let expected = solvers[0].tally(lo, hi, tally);
             let (code, counts) = self.library.tally(lo, hi, tally.0);
             let same = code == expected.code && counts[..] == expected.numbers;
             assert!(
@@ -198,22 +209,83 @@ impl Pair {
             );
             self.tallied.take(Kind::of(&verdict), tally);
         }
+        if rules.is_ok() {
+            self.verdicts_around(bytes, &solvers, value, whole);
+        }
 
         let most = if rules.is_ok() { n } else { 0 };
         let far = random.pick(&[n + 1, n + 2, 33, 64, 1 << 32, (1 << 32) + n, 1 << 63, u64::MAX]);
         for level in (0..=most).chain([n + 1, far]) {
-            let got = self.library.cut(level);
-            self.same(CUT, &solver.cut(level), got, || format!("level {level}, {}", input()));
+            self.cut(bytes, &solvers, level);
         }
         if let Ok(rules) = &rules {
             let plain = Tables::without_clashes(rules);
             for level in 0..rules.n() {
-                let (cut, plain) = (solver.cut(level as u64).numbers, Answer::numbers(&plain.cut(level)).numbers);
+                let (cut, plain) = (solvers[0].cut(level as u64).numbers, Answer::numbers(&plain.cut(level)).numbers);
                 self.by_clashes[kind_of_level(level, rules.n())] += u64::from(cut != plain);
                 self.open_alone += u64::from(cut != plain && cut[1] == plain[1]);
             }
         }
         true
+    }
+
+    /// Compares figure, verdicts around it and all cuts of an accepted file: by the search, in the plain form, and by
+    /// these methods of the peer.
+    pub fn solve(&mut self, random: &mut Random, bytes: &[u8], rules: &Rules, solvers: &[Solver]) {
+        self.library.lend_rule(bytes, place(random));
+        let value = self.figure(bytes, solvers);
+        self.verdicts_around(bytes, solvers, value, rules.whole() as u64);
+        for level in 0..=rules.n() as u64 {
+            self.cut(bytes, solvers, level);
+        }
+    }
+
+    /// Fails unless all methods of the peer give the same answer to one question about a file.
+    fn agreed(solvers: &[Solver], answer: impl Fn(&Solver) -> Answer, input: impl Fn() -> String) -> Answer {
+        let first = answer(&solvers[0]);
+        for other in &solvers[1..] {
+            assert_eq!(answer(other), first, "two methods of the peer: {}", input());
+        }
+        first
+    }
+
+    /// Compares the figure of the rule file that is lent: 0 for a refused one.
+    fn figure(&mut self, bytes: &[u8], solvers: &[Solver]) -> u64 {
+        let input = || format!("rule file {}", to_hex(bytes));
+        let expected = Pair::agreed(solvers, |solver| solver.figure(), input);
+        let got = self.library.figure();
+        self.same(FIGURE, &expected, got, input);
+        let got = self.library.plain_figure();
+        self.same(PLAIN_FIGURE, &expected, got, input);
+        expected.numbers.first().copied().unwrap_or(0)
+    }
+
+    /// Compares a verdict on the rule file that is lent.
+    fn verdict(&mut self, bytes: &[u8], solvers: &[Solver], lo: u64, hi: u64) -> Answer {
+        let input = || format!("limits {lo} {hi}, rule file {}", to_hex(bytes));
+        let expected = Pair::agreed(solvers, |solver| solver.verdict(lo, hi), input);
+        let got = self.library.verdict(lo, hi);
+        self.same(VERDICT, &expected, got, input);
+        let got = self.library.plain_verdict(lo, hi);
+        self.same(PLAIN_VERDICT, &expected, got, input);
+        expected
+    }
+
+    /// Compares the verdicts with limits at the value and one beside it.
+    fn verdicts_around(&mut self, bytes: &[u8], solvers: &[Solver], value: u64, whole: u64) {
+        for (lo, hi) in generate::limits_around(value, whole) {
+            self.verdict(bytes, solvers, lo, hi);
+        }
+    }
+
+    /// Compares a cut of the rule file that is lent.
+    fn cut(&mut self, bytes: &[u8], solvers: &[Solver], level: u64) {
+        let input = || format!("level {level}, rule file {}", to_hex(bytes));
+        let expected = Pair::agreed(solvers, |solver| solver.cut(level), input);
+        let got = self.library.cut(level);
+        self.same(CUT, &expected, got, input);
+        let got = self.library.plain_cut(level);
+        self.same(PLAIN_CUT, &expected, got, input);
     }
 
     /// Compares both readers on one rule file.

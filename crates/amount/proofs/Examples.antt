@@ -1,0 +1,49 @@
+-- The definitions computed on small formulas. Literal 2x is the bit 4^x, and its opposite the bit 2 · 4^x. Assumes
+-- nothing.
+use mathlib.Core.Path.{_≡_, refl}
+use mathlib.Core.List.{List, [], _∷_}
+use Prim.Native.Nat.{ℕ}
+use Rattle.formula.specs.Quantifier.{Quantifier, existential, randomized}
+use Rattle.amount.specs.Rests.{meets, minus, reduce, those}
+use Rattle.amount.specs.Amount.{all-met, amount, product, whole-of, weight}
+use Rattle.amount.specs.Levels.{up, kind-of, near, shortened}
+
+-- variable 0 is drawn with weights 1 and 3, variable 1 is existential, variable 2 drawn with weights 2 and 5
+abbrev quantifiers : List Quantifier
+quantifiers = randomized 1 3 ∷ existential ∷ randomized 2 5 ∷ []
+
+-- clauses {0, not 1}, {1, 2} and {not 0, not 1, not 2}
+abbrev clauses : List ℕ
+clauses = 9 ∷ 20 ∷ 42 ∷ []
+
+-- variable 1 is true
+rests : reduce 4 12 clauses ≡ 1 ∷ 34 ∷ []
+unfolding reduce meets minus
+rests = refl
+
+truths : (weight (randomized 2 5) 1 ≡ 2) × (weight (randomized 2 5) 0 ≡ 5)
+truths = (refl, refl)
+
+all-of-them : amount (kind-of quantifiers) (up 0 3) (all-met clauses) ≡ 11
+unfolding reduce meets minus amount up
+all-of-them = refl
+
+whole : whole-of (kind-of quantifiers) (up 0 3) ≡ 28
+unfolding product up
+whole = refl
+
+-- over the draws alone: what meets clauses {0, 2} and {not 0, 2} and what misses the first make what meets the second
+excluded : (amount (kind-of quantifiers) (0 ∷ 2 ∷ []) (all-met (17 ∷ 18 ∷ [])) ≡ 8) × ((amount (kind-of quantifiers) (0 ∷ 2 ∷ []) (record { met = 18 ∷ []; missed = 17 ∷ [] }) ≡ 15)
+    × (amount (kind-of quantifiers) (0 ∷ 2 ∷ []) (all-met (18 ∷ [])) ≡ 23))
+unfolding reduce meets minus amount
+excluded = (refl, (refl, refl))
+
+-- at level 2 variable 2 is outside
+parts : (near 2 clauses ≡ clauses) × (shortened 2 clauses ≡ 4 ∷ 10 ∷ [])
+unfolding those reduce meets minus
+parts = (refl, refl)
+
+-- at level 1 the third clause has two literals outside
+fewer : near 1 clauses ≡ 9 ∷ []
+unfolding those
+fewer = refl

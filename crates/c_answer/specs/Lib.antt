@@ -1,0 +1,2 @@
+-- What a C function returns and stores for an answer.
+pub mod CAnswer
