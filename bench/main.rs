@@ -2,15 +2,21 @@
 //! input, both optimised. Prints Markdown tables.
 //!
 //!     cargo bench --manifest-path tests/peer/Cargo.toml
+//!     cargo bench --manifest-path tests/peer/Cargo.toml -- programs repairs
 //!
-//! The proved solver runs in a thread with a stack of 1 MiB. Both solvers are given the bytes of a
+//! The second prints the named tables only: programs, hard, trees, derivations, writing, readers, repairs.
+//!
+//! In the first table whole programs are compared: `ssat`, from the directory in SSAT_BIN_DIR or else from
+//! `target/bin`, and the peer's search in a program that prints the same. Each is started anew for each run.
+//!
+//! In the others the proved solver runs in a thread with a stack of 1 MiB. Both solvers are given the bytes of a
 //! file and read it.
 //!
-//! The first table has files on which a good search is needed, and the peer's own search. There
+//! The second table has files on which a good search is needed, and the peer's own search. There
 //! the proved solver is a process of its own, which is ended after 60 seconds, or after those of
 //! the variable BENCH_SECONDS; it then has no time in the table.
 //!
-//! In the second table "nodes" are those of the plain tree that stops where all clauses are
+//! In the third table "nodes" are those of the plain tree that stops where all clauses are
 //! satisfied, one is falsified or two clash, counted by the peer; a search visits fewer. The peer
 //! solves each file in two ways: "walk" visits that tree, unless it is too large, "tables" shares
 //! nodes with the same undetermined clauses.
@@ -27,7 +33,8 @@ fn main() {
         [command, question, n, limits @ ..] if command == "process" => {
             bench::process(question, n, limits)
         }
-        _ => bench::main(),
+        [command] if command == "report" => bench::report(),
+        names => bench::main(names),
     }
 }
 
@@ -349,17 +356,35 @@ mod bench {
         /// The geometric mean, and the largest with its row.
         fn print(&self, kind: &str) {
             let Ratios { found, ended } = self;
-            let Some((worst, row)) = found.iter().max_by(|a, b| a.0.total_cmp(&b.0)) else {
+            let Some((mean, worst, row)) = self.mean_and_worst() else {
                 println!("{kind}: no ratio, {ended} runs ended");
                 return;
             };
-            let mean = found.iter().map(|(ratio, _)| ratio.ln()).sum::<f64>() / found.len() as f64;
             println!(
-                "{kind}: geometric mean {:.2} of {} ratios, the worst {worst:.2} ({row}); {ended} runs ended",
-                mean.exp(),
+                "{kind}: geometric mean {mean:.2} of {} ratios, the worst {worst:.2} ({row}); {ended} runs ended",
                 found.len(),
             );
         }
+
+        /// The geometric mean, and the largest with its row, if there is one.
+        fn mean_and_worst(&self) -> Option<(f64, f64, &str)> {
+            let found = &self.found;
+            let (worst, row) = found.iter().max_by(|a, b| a.0.total_cmp(&b.0))?;
+            let mean = found.iter().map(|(ratio, _)| ratio.ln()).sum::<f64>() / found.len() as f64;
+            Some((mean.exp(), *worst, row))
+        }
+    }
+
+    /// The file of a hard family, the same in every run.
+    fn hard_rule(shape: Shape, n: usize, k: usize, per_variable: usize) -> RuleDraft {
+        let mut random = Random::new((n * 10_000 + k * 100 + per_variable) as u64);
+        let family = Family {
+            shape,
+            n,
+            k,
+            per_variable,
+        };
+        generate::hard_rule(&mut random, family)
     }
 
     /// Figure, verdicts and cuts of the hard families, and the ratios as a whole.
@@ -371,14 +396,7 @@ mod bench {
         let [mut values, mut cuts] = [Ratios::default(), Ratios::default()];
         for (name, shape, families) in HARD {
             for [n, k, per_variable] in families {
-                let family = Family {
-                    shape,
-                    n,
-                    k,
-                    per_variable,
-                };
-                let mut random = Random::new((n * 10_000 + k * 100 + per_variable) as u64);
-                let rule = generate::hard_rule(&mut random, family);
+                let rule = hard_rule(shape, n, k, per_variable);
                 let (file, m) = (rule.bytes(), rule.clauses.len());
                 let rules = rules_of(&file);
                 let limits = limits(search::value(&rules), rules.whole() as u64);
@@ -422,6 +440,101 @@ mod bench {
         values.print("figure and verdicts");
         println!();
         cuts.print("cuts");
+    }
+
+    // -----------------------------------------------------------------------------------------
+    // Whole programs
+    // -----------------------------------------------------------------------------------------
+
+    /// Literals a clause, and clauses a variable.
+    const KINDS: [[usize; 2]; 10] = [
+        [3, 2],
+        [3, 3],
+        [4, 3],
+        [4, 6],
+        [4, 8],
+        [5, 4],
+        [5, 12],
+        [6, 8],
+        [6, 16],
+        [7, 16],
+    ];
+
+    /// The program that the peer is compared by: it prints what `ssat` prints for an accepted file.
+    pub fn report() {
+        let mut file = Vec::new();
+        std::io::stdin().read_to_end(&mut file).unwrap();
+        let rules = rules_of(&file);
+        let cuts = search::cuts(&rules);
+        let n = rules.n();
+        let mut text = format!(
+            "vars {n}\nclauses {}\nwhole {}\nvalue {}\n",
+            rules.clauses.len(),
+            rules.whole(),
+            cuts[n][0]
+        );
+        for (level, [lower, upper, open]) in cuts.iter().enumerate() {
+            text += &format!("cut {level} {lower} {upper} {open}\n");
+        }
+        std::io::stdout().write_all(text.as_bytes()).unwrap();
+    }
+
+    /// Seconds for one run of a program on a file, and what it prints: the least of several runs.
+    fn program(command: &mut Command, file: &[u8]) -> (f64, Vec<u8>) {
+        let mut text = Vec::new();
+        let least = seconds(|| {
+            let mut process = command
+                .stdin(Stdio::piped())
+                .stdout(Stdio::piped())
+                .spawn()
+                .unwrap();
+            process.stdin.take().unwrap().write_all(file).unwrap();
+            text = process.wait_with_output().unwrap().stdout;
+        });
+        (least, text)
+    }
+
+    /// Ten files for each order of the quantifiers and each number of variables, by whole programs.
+    fn programs() {
+        let directory = env::var("SSAT_BIN_DIR").unwrap_or_else(|_| {
+            concat!(env!("CARGO_MANIFEST_DIR"), "/../../target/bin").to_string()
+        });
+        let mut ssat = Command::new(format!("{directory}/ssat"));
+        let mut peer = Command::new(env::current_exe().unwrap());
+        peer.arg("report");
+        println!("| quantifiers | n | files | proved, ms, the longest | proved / peer, geometric mean | the worst |");
+        println!("|---|--:|--:|--:|--:|---|");
+        let mut sums = Vec::new();
+        for n in [24, 32] {
+            let mut all = Ratios::default();
+            for (name, shape, _) in HARD {
+                let mut ratios = Ratios::default();
+                let mut longest: f64 = 0.0;
+                for [k, per_variable] in KINDS {
+                    let rule = hard_rule(shape, n, k, per_variable);
+                    let (file, m) = (rule.bytes(), rule.clauses.len());
+                    let (time, text) = program(&mut ssat, &file);
+                    let (peer_time, peer_text) = program(&mut peer, &file);
+                    let row = format!("{k} literals, m = {m}");
+                    assert!(text == peer_text, "{name}, n = {n}, {row}");
+                    longest = longest.max(time);
+                    ratios.found.push((time / peer_time, row));
+                }
+                let (mean, worst, row) = ratios.mean_and_worst().unwrap();
+                let files = ratios.found.len();
+                println!(
+                    "| {name} | {n} | {files} | {} | {mean:.2} | {worst:.2}: {row} |",
+                    ms(longest)
+                );
+                all.found.append(&mut ratios.found);
+            }
+            sums.push((n, all));
+        }
+        println!();
+        for (n, all) in sums {
+            all.print(&format!("whole programs, n = {n}"));
+            println!();
+        }
     }
 
     // -----------------------------------------------------------------------------------------
@@ -837,35 +950,57 @@ mod bench {
         }
     }
 
-    /// The same with falling clauses. In every fourth the second literal is a repeat of the first, or,
-    /// in every sixteenth, its opposite.
-    fn falling() -> RuleDraft {
+    /// The same with clauses changed one by one, by their number.
+    fn changed(change: impl Fn(&mut Random, usize, &mut Vec<u32>)) -> RuleDraft {
+        let mut random = Random::new(9_001);
         let mut rule = in_order();
         for (at, clause) in rule.clauses.iter_mut().enumerate() {
-            clause.reverse();
-            match at % 16 {
-                0 => clause[1] = clause[0] ^ 1,
-                4 | 8 | 12 => clause[1] = clause[0],
-                _ => {}
-            }
+            change(&mut random, at, clause);
         }
         rule
     }
 
-    /// The repair against the bench's reader and a copy of the file: it is to take at most twice as
-    /// long as the two together. The reader refuses the second file at once, by 7, so that its time
-    /// for that is taken on the first, which has the same length and is in order.
+    /// The repair against the full reader on the same file and a copy of it: it is to take at most
+    /// twice the reader's time, and a copy. The reader refuses the last file by 7 at clause 3.
     fn repairs() {
-        println!("| rule file | n | m | bytes | new bytes | repair, ns | read, ns | copy, ns | repair / (read + copy) | peer, ns | repair / peer | stack, bytes |");
-        println!("|---|--:|--:|--:|--:|--:|--:|--:|--:|--:|--:|--:|");
-        let readable = in_order().bytes();
-        assert_eq!(direct::read(&readable).0, 0);
+        println!("| clauses | bytes | new bytes | read answers | read, ns | copy, ns | repair, ns | repair / (2 read + copy) | peer, ns | repair / peer | stack, bytes |");
+        println!("|---|--:|--:|--:|--:|--:|--:|--:|--:|--:|--:|");
         for (name, rule) in [
-            ("nothing to do", in_order()),
-            ("falling, with repeats and opposites", falling()),
+            ("in order", in_order()),
+            (
+                "only the last falls",
+                changed(|_, at, clause| {
+                    if at == 999 {
+                        clause.reverse();
+                    }
+                }),
+            ),
+            (
+                "the second half falls",
+                changed(|_, at, clause| {
+                    if at >= 500 {
+                        clause.reverse();
+                    }
+                }),
+            ),
+            ("all fall", changed(|_, _, clause| clause.reverse())),
+            (
+                "in any order",
+                changed(|random, _, clause| random.shuffle(clause)),
+            ),
+            (
+                "all fall, each fifth has a repeat, each fifth an opposite",
+                changed(|_, at, clause| {
+                    clause.reverse();
+                    match at % 5 {
+                        3 => clause[1] = clause[0],
+                        4 => clause[1] = clause[0] ^ 1,
+                        _ => {}
+                    }
+                }),
+            ),
         ] {
             let file = rule.bytes();
-            assert_eq!(file.len(), readable.len());
             let mut buffer = vec![0; file.len()];
             let expected = answer::repair(&file, file.len());
             assert_eq!(
@@ -873,42 +1008,48 @@ mod bench {
                 (0, expected.out([0; 4]))
             );
             assert!(buffer.starts_with(&expected.written));
+            let refusal = direct::read(&file).0;
             let (time, stack) = seconds_on_stack(&mut many(|| {
                 direct::repair(black_box(&file), black_box(&mut buffer))
             }));
-            let read = seconds_on_stack(&mut many(|| direct::read(black_box(&readable)))).0;
+            let read = seconds_on_stack(&mut many(|| direct::read(black_box(&file)))).0;
             let copy = seconds_on_stack(&mut many(|| {
-                black_box(&mut buffer).copy_from_slice(black_box(&readable))
+                black_box(&mut buffer).copy_from_slice(black_box(&file))
             }))
             .0;
             let peer = seconds(many(|| answer::repair(black_box(&file), file.len())));
             println!(
-                "| {name} | {} | {} | {} | {} | {} | {} | {} | {} | {} | {} | {stack} |",
-                rule.prefix.len(),
-                rule.clauses.len(),
+                "| {name} | {} | {} | {refusal} | {} | {} | {} | {} | {} | {} | {stack} |",
                 file.len(),
                 expected.written.len(),
-                ns(time),
                 ns(read),
                 ns(copy),
-                ratio(time, read + copy),
+                ns(time),
+                ratio(time, 2.0 * read + copy),
                 ns(peer),
                 ratio(time, peer),
             );
         }
     }
 
-    pub fn main() {
-        hard();
-        println!();
-        trees();
-        println!();
-        derivations();
-        println!();
-        writing();
-        println!();
-        readers();
-        println!();
-        repairs();
+    /// Prints the named tables, or all of them. Cargo adds `--bench`, which names none.
+    pub fn main(names: &[String]) {
+        let tables: [(&str, fn()); 7] = [
+            ("programs", programs),
+            ("hard", hard),
+            ("trees", trees),
+            ("derivations", derivations),
+            ("writing", writing),
+            ("readers", readers),
+            ("repairs", repairs),
+        ];
+        let named = |name: &str| names.iter().any(|other| other == name);
+        let all = !tables.iter().any(|(name, _)| named(name));
+        for (name, table) in tables {
+            if all || named(name) {
+                table();
+                println!();
+            }
+        }
     }
 }

@@ -17,12 +17,13 @@
  *     refusal          `buffer` is unchanged.
  *   out                four numbers, lent for writing; not null, aligned, and no part of the other buffers.
  *     answer           the numbers named below stand in `out` from index 0; the rest is set to 0.
- *     refusal          `out` is unchanged, except that a refusal which names a place puts it into out[0]: 5 to 7 and
- *                      23 the number of a clause, 8 that of a variable, 15 to 20 that of a line, each counted from 0.
+ *     refusal          `out` is unchanged, except that a refusal which names a place puts it into out[0], in every
+ *                      function: the number of a clause, of a variable or of a line, counted from 0, as the list below
+ *                      says.
  *   tally              five counts, lent for reading and writing; not null, aligned, and no part of the other buffers.
  *
- * Refusals of the rule file, by every function; ssat_read_small has 4,096 bytes in 1 and 16 variables in 3, and
- * ssat_repair has no 7 and no 23:
+ * The reader's refusals, of the rule file, by every function; ssat_read_small has 4,096 bytes in 1 and 16 variables in
+ * 3, and ssat_repair has no 7 and no 23:
  *    1  length not a multiple of 4, under 16 or over 65,536 bytes
  *    2  the last word is not the word count
  *    3  more than 32 variables or more than 1,024 clauses
@@ -68,23 +69,23 @@ extern "C" {
 
 /* Reads a rule file.
  * out: number of variables, number of clauses, word where the prefix begins, whole.
- * Refusals: 1 to 9, 23. */
+ * Refusals: the reader's. */
 uint32_t ssat_read(const uint8_t *rule, size_t len, uint64_t out[4]);
 
 /* Reads a rule file of at most 4,096 bytes and 16 variables, and answers as ssat_read does; one beyond these limits that
  * ssat_read accepts is refused by 1 or 3. Uses under 1,024 bytes of stack.
  * out: number of variables, number of clauses, word where the prefix begins, whole.
- * Refusals: 1 to 9, 23. */
+ * Refusals: the reader's. */
 uint32_t ssat_read_small(const uint8_t *rule, size_t len, uint64_t out[4]);
 
 /* The value of the formula, out of the whole.
  * out: value, whole, 0, 0.
- * Refusals: 1 to 9, 23. */
+ * Refusals: the reader's. */
 uint32_t ssat_figure(const uint8_t *rule, size_t len, uint64_t out[4]);
 
 /* Compares the value with the limits lo and hi, both out of the whole.
  * out: 0 and the value where lo <= value <= hi; 1 and 0 where it is above hi; 2 and 0 where it is below lo; then 0, 0.
- * Refusals: 1 to 9, 23, 10, 11. */
+ * Refusals: the reader's, 10, 11. */
 uint32_t ssat_verdict(const uint8_t *rule, size_t len, uint64_t lo, uint64_t hi, uint64_t out[4]);
 
 /* Counts over the results of a list of files: all, those refused, and those whose value is above hi, below lo and from
@@ -95,32 +96,34 @@ struct ssat_tally {
 
 /* Compares as ssat_verdict does, returns what it returns, and takes the result, a refusal too, into `tally`: `files`
  * and the count of the result's kind go up by 1. With any count at 4,096 or more nothing is taken in.
- * Refusals: 1 to 9, 23, 10, 11. */
-uint32_t ssat_tally(const uint8_t *rule, size_t len, uint64_t lo, uint64_t hi, struct ssat_tally *tally);
+ * out: as of ssat_verdict.
+ * Refusals: the reader's, 10, 11. */
+uint32_t ssat_tally(const uint8_t *rule, size_t len, uint64_t lo, uint64_t hi, struct ssat_tally *tally,
+                    uint64_t out[4]);
 
 /* Bounds on the value with only the first `level` variables set.
  * A way to set them in which two clauses without a true literal have one unset literal each, a variable and its
  * opposite, counts as lost.
  * out: lower number, upper number, open weight, 0; all out of the whole.
- * Refusals: 1 to 9, 23, 12. */
+ * Refusals: the reader's, 12. */
 uint32_t ssat_cut(const uint8_t *rule, size_t len, uint64_t level, uint64_t out[4]);
 
 /* Checks a derivation over a rule file.
  * out: closing value, whole, 0, 0.
- * Refusals: 1 to 9 and 23 for the rule file, 13 to 21. */
+ * Refusals: the reader's for the rule file, 13 to 21. */
 uint32_t ssat_check(const uint8_t *rule, size_t len, const uint8_t *derivation, size_t dlen, uint64_t out[4]);
 
 /* Writes a derivation over a rule file into `buffer`. ssat_check accepts it, and its closing value is the value of the
  * formula.
  * out: byte length, 0, 0, 0.
- * Refusals: 1 to 9, 23, 22. */
+ * Refusals: the reader's, 22. */
 uint32_t ssat_derive(const uint8_t *rule, size_t len, uint8_t *buffer, size_t capacity, uint64_t out[4]);
 
 /* Repairs a stored rule file into `buffer`: literals in rising order, each once; clauses that hold a literal and its
  * opposite dropped; the others in their order; the prefix as it was; a trailer that fits. ssat_read accepts what is
  * written. A clause counts as reordered where its literals, without the later repeats, were not rising.
  * out: byte length, clauses dropped, literals dropped from kept clauses, kept clauses reordered.
- * Refusals: 1 to 6, 8, 9, 25. */
+ * Refusals: the reader's but 7 and 23, 25. */
 uint32_t ssat_repair(const uint8_t *rule, size_t len, uint8_t *buffer, size_t capacity, uint64_t out[4]);
 
 #ifdef __cplusplus

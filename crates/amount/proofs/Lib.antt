@@ -3,7 +3,7 @@
 pub mod Examples
 pub mod RestLaws
 pub mod LevelLaws
-pub mod AimLaws
+pub mod GoalLaws
 pub mod AmountLaws
 pub mod SettleLaws
 pub mod FigureAmount

@@ -35,8 +35,8 @@ pub le-or-r : (a b : ℕ) → b ≤ bitOr a b
 le-or-r a b = omega (arith, or-add-and a b, and-le-l a b)
 
 -- a set that meets a smaller one meets it with bits from k on added
-pub meets-more : (m s a k : ℕ) → s < 2 ^ k → bitAnd m (s + a * 2 ^ k) ≡ 0 → bitAnd m s ≡ 0
-meets-more m s a k h e =
+pub intersects-more : (m s a k : ℕ) → s < 2 ^ k → bitAnd m (s + a * 2 ^ k) ≡ 0 → bitAnd m s ≡ 0
+intersects-more m s a k h e =
     let f : s + a * 2 ^ k ≡ bitOr (a * 2 ^ k) s = omega (arith, or-shifted a k s h) in
     let g = sym (and-or (a * 2 ^ k) s m) ∙ and-comm (bitOr (a * 2 ^ k) s) m ∙ ap (bitAnd m) (sym f) ∙ e in
     and-comm m s ∙ omega (arith, le-or-r (bitAnd (a * 2 ^ k) m) (bitAnd s m))

@@ -1,13 +1,14 @@
 // Sets of numbers under 64 as the bits of one word: x is in the set where the bit 1 << x is.
 ghost use mathlib.Core.Path.{_≡_};
 ghost use Prim.Native.Nat.{_<_};
+ghost use Rattle.formula.specs.Formula.{opposite};
 ghost use Rattle.bit_set.specs.BitSet.{has, including, from, alone, pairs, has-pair, paired};
 
 // The set of all numbers under 64.
 pub const ALL: u64 = 18446744073709551615;
 
 // The set of the even numbers under 64.
-const EVENS: u64 = 6148914691236517205;
+pub const EVENS: u64 = 6148914691236517205;
 
 // Whether x is in the set.
 pub fn has(set: u64, x: usize) -> bool
@@ -69,4 +70,11 @@ pub fn paired(set: u64) -> u64
 {
     let even = pairs(set);
     even | (even << 1)
+}
+
+// The literal of the same variable with the other sign: the other number of its pair of an even number and the next.
+pub fn opposite(l: usize) -> usize
+    ensures { λ r. ⌜ r ≡ opposite l ⌝ }
+{
+    l ^ 1
 }

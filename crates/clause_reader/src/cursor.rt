@@ -35,7 +35,7 @@ pub enum Step {
 }
 
 // The cursor at clause 0 of an accepted file; the refusal of another.
-pub fn start(rule: &[u8]) -> Cursor
+pub(crate) fn start(rule: &[u8]) -> Cursor
     ensures answer { λ r. ⌜ placing r ≡ start-file (now (rule .entry)) ⌝ }
     ensures unchanged { λ _. ⌜ now (rule .exit) ≡ now (rule .entry) ⌝ }
 {
@@ -50,7 +50,7 @@ pub fn start(rule: &[u8]) -> Cursor
 }
 
 // The clause at a cursor, whatever the cursor is: a clause that would leave the file is not given.
-pub fn clause_at(rule: &[u8], cursor: Cursor) -> Step
+pub(crate) fn clause_at(rule: &[u8], cursor: Cursor) -> Step
     ensures answer { λ r. ⌜ stepping r ≡ clause-file (now (rule .entry)) (placing cursor) ⌝ }
     ensures unchanged { λ _. ⌜ now (rule .exit) ≡ now (rule .entry) ⌝ }
 {
@@ -88,7 +88,7 @@ pub fn clause_at(rule: &[u8], cursor: Cursor) -> Step
 }
 
 // The cursor `count` clauses on. It does not move where none is left.
-pub fn advanced(rule: &[u8], cursor: Cursor, count: usize) -> Cursor
+pub(crate) fn advanced(rule: &[u8], cursor: Cursor, count: usize) -> Cursor
     ensures answer { λ r. ⌜ placing r ≡ advance-file (now (rule .entry)) count (placing cursor) ⌝ }
     ensures unchanged { λ _. ⌜ now (rule .exit) ≡ now (rule .entry) ⌝ }
 {
@@ -111,7 +111,7 @@ pub fn advanced(rule: &[u8], cursor: Cursor, count: usize) -> Cursor
 }
 
 // The literals of the clause at a cursor; empty where none is given.
-pub fn literals_at(rule: &[u8], cursor: Cursor) -> &[u8]
+pub(crate) fn literals_at(rule: &[u8], cursor: Cursor) -> &[u8]
     ensures answer { λ r. ⌜ now r ≡ clause-bytes (now (rule .entry)) (clause-file (now (rule .entry)) (placing cursor)) ⌝ }
     ensures unchanged { λ _. ⌜ now (rule .exit) ≡ now (rule .entry) ⌝ }
 {

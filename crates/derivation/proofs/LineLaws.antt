@@ -18,11 +18,10 @@ use Rattle.rule_file.specs.Words.{word, word-count, all-words, part}
 use Rattle.rule_file.proofs.WalkLaws.{elements-length, element-is, none-at, walked-at}
 use Rattle.rule_file.proofs.WordsLaws.{part-words}
 use Rattle.resolution.specs.Resolution.{Line, blocking, resolvent, derived, line-at}
-use Rattle.derivation.specs.DerivationFile.{trailer-start, line-count, kind, size, value-start, clause-of, line-of, after-line, lines}
+use Rattle.derivation.specs.DerivationFile.{trailer-start, line-count, kind, size, value-start, clause-of, line-of, after-line, lines, line-start}
 use Rattle.derivation.specs.Check.{line-fits, walk-lines, line-fails}
 use Rattle.derivation.specs.WellFormed.{WellFormed}
 use Rattle.derivation.specs.Readable.{Walked}
-use Rattle.derivation.specs.Parent.{line-start}
 
 -- One line
 

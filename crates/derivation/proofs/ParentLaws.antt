@@ -1,5 +1,7 @@
--- What a reference names, by its parity: where its clause or line stands, its literals as a part of the file that holds
--- them, and its value; then where the references end, the table of sets, and resolution's lookup. Assumes nothing.
+-- What a reference names. In order: by its parity, where its clause or line stands, its literals as a part of the file
+-- that holds them, and its value; what holds of both files at once; where the references end; the reference to clause j,
+-- and to line j; the table of sets, one reference more at a time; and resolution's lookup. Not here: the table of starts
+-- as it is filled (StartsLaws), and the lines of a file (LineLaws). Assumes nothing.
 use mathlib.Core.Path.{_≡_, refl, sym, ap, _∙_}
 use mathlib.Core.Bool.{Bool, true, false, cond, false≢true}
 use mathlib.Core.List.{List, []}
@@ -21,11 +23,13 @@ use Rattle.rule_file.specs.Accepted.{Accepted}
 use Rattle.rule_file.proofs.WordsLaws.{part-words}
 use Rattle.rule_file.proofs.ClauseLaws.{clauses-length, clause-is, clause-passes, clause-within}
 use Rattle.resolution.specs.Resolution.{derived, original-clause, line-at, some-if, lookup}
-use Rattle.derivation.specs.DerivationFile.{line-count, size, value-start, value-at, clause-of, lines}
+use Rattle.derivation.specs.DerivationFile.{line-count, size, value-start, value-at, clause-of, lines, line-start}
 use Rattle.derivation.specs.Readable.{Walked}
 use Rattle.derivation.specs.Starts.{max-references, ClauseStarts, LineStarts}
-use Rattle.derivation.specs.Parent.{line-start, is-named, referent-literals, referent-part, referent-value, referent}
+use Rattle.derivation.specs.Parent.{is-named, referent-literals, referent-part, referent-value, referent, Masks}
 use Rattle.derivation.proofs.LineLaws.{derived-at, line-words, line-value-within}
+
+-- By parity
 
 -- a reference that is even names a clause of the rule file
 module _ (r : ℕ) (even : r % 2 ≡ 0) where
@@ -72,6 +76,8 @@ module _ (r : ℕ) (odd : r % 2 ≡ 0 → ⊥) where
   unfolding referent-value
   line-value d h = rw (ne-eqb _ _ odd) (sym (ap (λ c. c .value) (derived-at d (r / 2) h)))
 
+-- In either file
+
 -- the words of the part are the literals
 pub referent-words :
     (b d : List ℕ) → Accepted b → Walked d → (r : ℕ) → is-named (clause-count b) (line-count d) r ≡ true → all-words (referent-part b d r) ≡ referent-literals b d r
@@ -92,7 +98,8 @@ referent-fails b d f clauses-fail lines-fail r e = go (ℕ-discrete (r % 2) 0)
     go (yes even) = let h = named-clause r even _ _ e in rw (eq-eqb _ _ even, clause-is b (r / 2) h) (clause-passes b f (clause-count b) (r / 2) h clauses-fail)
     go (no odd) = let h = named-line r odd _ _ e in rw (ne-eqb _ _ odd, derived-at d (r / 2) h) (lines-fail (r / 2) h)
 
--- the references end, and are few enough for the table
+-- The references end, and are few enough for the table
+
 pub named-end : (m k r : ℕ) → is-named m k r ≡ true → r < 2 * max m k
 named-end m k r e = go (ℕ-discrete (r % 2) 0)
   where
@@ -103,7 +110,27 @@ named-end m k r e = go (ℕ-discrete (r % 2) 0)
 pub named-few : (m k r : ℕ) → m ≤ max-clauses → k ≤ max-lines → is-named m k r ≡ true → r < max-references
 named-few m k r few few-lines e = omega (arith, named-end m k r e)
 
--- the reference to line j
+-- The references to clause j and to line j
+
+module _ (j : ℕ) where
+  even : (2 * j) % 2 ≡ 0
+  even = omega arith
+
+  half-of : (2 * j) / 2 ≡ j
+  half-of = omega arith
+
+  clause-named : (m k : ℕ) → j < m → is-named m k (2 * j) ≡ true
+  unfolding is-named
+  clause-named m k h = rw (eq-eqb _ _ even, half-of) (lt-ltb j m h)
+
+  clause-referent : (b d : List ℕ) → referent-literals b d (2 * j) ≡ getD (clauses b) j []
+  unfolding referent-literals
+  clause-referent b d = rw (eq-eqb _ _ even, half-of)
+
+  -- where its mask stands
+  pub clause-masked : (b d masks : List ℕ) → Masks b d masks → j < clause-count b → getD masks (2 * j) 0 ≡ mask (getD (clauses b) j [])
+  clause-masked b d masks are h = are (2 * j) (clause-named _ _ h) ∙ ap mask (clause-referent b d)
+
 module _ (j : ℕ) where
   odd : (2 * j + 1) % 2 ≡ 0 → ⊥
   odd e = omega arith
@@ -119,7 +146,8 @@ module _ (j : ℕ) where
   unfolding referent-literals
   line-referent b d h = rw (ne-eqb _ _ odd, half) (ap (λ c. c .literals) (derived-at d j h))
 
--- the table of sets, one reference more at a time
+-- The table of sets, one reference more at a time
+
 pub record MasksBefore (b d : List ℕ) (count : ℕ) (masks : List ℕ) : Type 0 where
   pub each : (r : ℕ) → r < count → is-named (clause-count b) (line-count d) r ≡ true → getD masks r 0 ≡ mask (referent-literals b d r)
 
@@ -134,6 +162,8 @@ module _ {b d : List ℕ} {r : ℕ} {masks : List ℕ} (before : MasksBefore b d
 
   pub mask-passed : is-named (clause-count b) (line-count d) r ≡ false → MasksBefore b d (r + 1) masks
   mask-passed none = record { each = below-more _ r (before .each) (λ named. absurd (false≢true (sym none ∙ named))) }
+
+-- Resolution's lookup
 
 pub named-more : (m k l r : ℕ) → k ≤ l → is-named m k r ≡ true → is-named m l r ≡ true
 unfolding is-named

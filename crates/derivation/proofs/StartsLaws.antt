@@ -1,4 +1,6 @@
--- The table of starts, one reference more at a time, and what is kept at the others. Assumes nothing.
+-- The table of starts as it is filled: one start more, whatever is counted; so a clause's, and a line's; and that a
+-- clause's start leaves the lines' as they are. Not here: what the whole table says in document 01's words
+-- (StartsWalked), and what is read from it (ParentLaws). Assumes nothing.
 use mathlib.Core.Path.{_≡_, _∙_}
 use mathlib.Core.Logic.{_≢_}
 use mathlib.Core.List.{List}
@@ -8,7 +10,7 @@ use lib.ListN.{length, getD, set}
 use lib.Seq.{getD-set-same, getD-set-other}
 use borrow.Author.Count.{below-more}
 use Rattle.rule_file.specs.RuleFile.{clause-start}
-use Rattle.derivation.specs.Parent.{line-start}
+use Rattle.derivation.specs.DerivationFile.{line-start}
 use Rattle.derivation.specs.Starts.{ClauseStarts, LineStarts}
 
 -- the start x of element `count` is kept at its reference; those of the elements before it stay

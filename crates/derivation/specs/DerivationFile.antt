@@ -4,7 +4,7 @@ use mathlib.Core.Bool.{cond}
 use mathlib.Core.List.{List}
 use Prim.Native.Nat.{ℕ, _+_, _-_, _*_, _^_}
 use lib.Dec.{eqb}
-use Rattle.rule_file.specs.Walk.{elements}
+use Rattle.rule_file.specs.Walk.{elements, start}
 use Rattle.rule_file.specs.Words.{word, word-count, words}
 use Rattle.resolution.specs.Resolution.{Annotated, Line, blocking, resolvent}
 
@@ -48,6 +48,10 @@ line-of d i =
 -- the next line follows
 unfoldable pub after-line : List ℕ → ℕ → ℕ
 after-line d i = value-start d i + cond (eqb (kind d i) 1) 2 5
+
+-- the word where line j begins, by a walk from word 0
+abbrev pub line-start : List ℕ → ℕ → ℕ
+line-start d = start (after-line d) 0
 
 -- the lines from word i on, as many as are left
 abbrev pub lines-from : List ℕ → ℕ → ℕ → List Line

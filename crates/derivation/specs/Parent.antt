@@ -7,15 +7,10 @@ use Prim.Native.Nat.{ℕ, _+_, _/_, _%_}
 use lib.ListN.{getD}
 use lib.Dec.{ltb, eqb}
 use Rattle.bit_set.specs.BitSet.{mask}
-use Rattle.rule_file.specs.Walk.{start}
 use Rattle.rule_file.specs.Words.{word, part}
 use Rattle.rule_file.specs.RuleFile.{clause-count, clauses, clause-start}
 use Rattle.resolution.specs.Resolution.{Annotated, derived, line-at}
-use Rattle.derivation.specs.DerivationFile.{line-count, size, after-line, lines}
-
--- the word where line j of the derivation begins, by a walk from word 0
-abbrev pub line-start : List ℕ → ℕ → ℕ
-line-start d = start (after-line d) 0
+use Rattle.derivation.specs.DerivationFile.{line-count, size, line-start, lines}
 
 -- whether a reference names one of m clauses or one of the first k lines
 unfoldable pub is-named : ℕ → ℕ → ℕ → Bool

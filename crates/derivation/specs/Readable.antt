@@ -14,10 +14,10 @@ use Rattle.rule_file.specs.declared.Header.{Header}
 use Rattle.resolution.specs.Resolution.{line-at, judge}
 use Rattle.literals.specs.Occurrences.{Occurrences}
 use Rattle.literals.specs.Denominators.{Denominators}
-use Rattle.derivation.specs.DerivationFile.{trailer-start, line-count, kind, value-start, lines}
+use Rattle.derivation.specs.DerivationFile.{trailer-start, line-count, kind, value-start, lines, line-start}
 use Rattle.derivation.specs.Check.{walk-lines}
 use Rattle.derivation.specs.WellFormed.{WellFormed}
-use Rattle.derivation.specs.Parent.{line-start, is-named, Masks}
+use Rattle.derivation.specs.Parent.{is-named, Masks}
 use Rattle.derivation.specs.Starts.{max-references, LineStarts, Starts}
 use Rattle.derivation.specs.declared.judge.Inference.{Inference}
 use Rattle.derivation.specs.declared.Fault.{Fault}
@@ -35,7 +35,7 @@ pub record Readable (b d : List ℕ) (h : Header) : Type 0 where
 
 -- the tables that judging reads are made: where what each reference names begins, the set of its literals, in which
 -- clauses each literal occurs, and R(i)
-pub record Tables (b d starts masks occurrences denominators : List ℕ) : Type 0 where
+pub record CheckTables (b d starts masks occurrences denominators : List ℕ) : Type 0 where
   pub starts-are : Starts b d starts
   pub masks-are : Masks b d masks
   pub occurrences-are : Occurrences (clauses b) occurrences

@@ -126,7 +126,7 @@ fn check_lines<'a>(
     let mut masks: [u64; REFERENCES] = [0; REFERENCES];
     keep_masks(rule, derivation, header, count, starts, &mut masks);
     let mut occurrences: [u64; OCCURRENCES] = [0; OCCURRENCES];
-    put_occurrences(rule, header, &mut occurrences);
+    put_occurrences(&masks, 2, header.clauses, &mut occurrences);
     let denominators = denominators(rule, header);
     if let Fault::At(number, line) = judge_lines(
         rule,

@@ -96,6 +96,7 @@ pub(crate) fn keep_masks<'a>(
     requires { ⌜ lines ≡ line-count (now derivation) ⌝ }
     requires { ⌜ length (now masks) ≡ max-references ⌝ }
     ensures { λ _. ⌜ Masks (now (rule .entry)) (now (derivation .entry)) (now (masks .exit)) ⌝ }
+    ensures length { λ _. ⌜ length (now (masks .exit)) ≡ max-references ⌝ }
     ensures unchanged { λ _. ⌜ now (starts .exit) ≡ now (starts .entry) ⌝ }
 {
     let clauses = header.clauses;

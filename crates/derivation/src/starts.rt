@@ -3,11 +3,12 @@
 use rule_file::Header;
 use rule_file::words::word;
 ghost use mathlib.Core.Path.{_≡_};
-ghost use Prim.Native.Nat.{ℕ, _+_, _*_, _^_, _<_};
+ghost use mathlib.Core.List.{List};
+ghost use Prim.Native.Nat.{ℕ, _^_, _<_};
 ghost use lib.ListN.{length, getD, set};
-ghost use Rattle.rule_file.specs.RuleFile.{clause-count};
 ghost use Rattle.rule_file.specs.Accepted.{Accepted, header as header-of};
-ghost use Rattle.derivation.specs.Starts.{max-references, ClauseStarts};
+ghost use Rattle.derivation.specs.DerivationFile.{line-count};
+ghost use Rattle.derivation.specs.Starts.{max-references, LineStarts, Starts};
 
 // As many references as 1,024 clauses and 1,024 lines have.
 pub(crate) const REFERENCES: usize = 2048;
@@ -36,14 +37,13 @@ pub(crate) fn start_at(starts: &[u16; REFERENCES], reference: usize) -> usize
     wide(starts[reference])
 }
 
-// Keeps the starts of all clauses of an accepted file; those of the lines stay.
+// Keeps the starts of all clauses of an accepted file. Those of the lines stay, so that where they are those of all
+// lines of a derivation, the table has the starts of both files.
 pub(crate) fn keep_clauses(rule: &[u8], header: Header, starts: &mut [u16; REFERENCES])
     requires { ⌜ Accepted (now rule) ⌝ }
     requires { ⌜ header ≡ header-of (now rule) ⌝ }
     requires { ⌜ length (now starts) ≡ max-references ⌝ }
-    ensures { λ _. ⌜ ClauseStarts (now (rule .entry)) (clause-count (now (rule .entry))) (now (starts .exit)) ⌝ }
-    ensures { λ _. ⌜ ((j : ℕ) → getD (now (starts .exit)) (2 * j + 1) 0 ≡ getD (now (starts .entry)) (2 * j + 1) 0) ⌝ }
-    ensures { λ _. ⌜ length (now (starts .exit)) ≡ max-references ⌝ }
+    ensures { λ _. ⌜ ((d : List ℕ) → LineStarts d (line-count d) (now (starts .entry)) → Starts (now (rule .entry)) d (now (starts .exit))) ⌝ }
 {
     let count = header.clauses;
     let mut clause = 0;

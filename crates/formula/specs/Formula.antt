@@ -42,6 +42,11 @@ unfoldable pub all-of : {A : Type 0} → (A → Bool) → List A → Bool
 all-of f [] = true
 all-of f (x ∷ xs) = f x && all-of f xs
 
+-- whether the list has no element
+abbrev pub is-empty : List ℕ → Bool
+is-empty [] = true
+is-empty (_ ∷ _) = false
+
 -- x stands in the list, as a statement and as a test
 infix 50 _∈_
 abbrev pub _∈_ : {A : Type 0} → A → List A → Type 0

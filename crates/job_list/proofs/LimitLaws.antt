@@ -10,8 +10,8 @@ use lib.ListN.{length, drop, getD, drop-of-length-le}
 use lib.Seq.{drop-cons}
 use lib.Dec.{leb}
 use borrow.Author.Tests.{le-leb, lt-leb, lt-ltb, le-ltb}
-use Rattle.formula.specs.Formula.{all-of}
-use Rattle.job_list.specs.JobList.{is-empty, is-digit, decimal-value-from, decimal-value, fits, is-limit, limit-of}
+use Rattle.formula.specs.Formula.{all-of, is-empty}
+use Rattle.job_list.specs.JobList.{is-digit, decimal-value-from, decimal-value, fits, is-limit, limit-of}
 
 -- the bytes before index i are digits, and x is the number that they are
 pub record ReadTo (t : List ℕ) (i x : ℕ) : Type 0 where

@@ -13,10 +13,10 @@ use lib.ListN.{length}
 use lib.Dec.{leb, eqb}
 use borrow.Author.Tests.{ltb-true, leb-true, eqb-true, eqb-false, lt-ltb, eq-eqb, ne-eqb, not-true}
 use Rattle.buffer.specs.Text.{ascii}
-use Rattle.formula.specs.Formula.{_∈_, some-of, all-of, member}
+use Rattle.formula.specs.Formula.{_∈_, some-of, all-of, member, is-empty}
 use Rattle.formula.proofs.Membership.{and-iff, all-of-iff, not-member-iff}
 use Rattle.bytes.specs.Bytes.{indexOf}
-use Rattle.job_list.specs.JobList.{in-front, split, list-lines, parts, is-empty, is-name, is-digit, decimal-value-from, decimal-value, fits, is-limit, limit-of, Job, with-limits, job-by, job-of}
+use Rattle.job_list.specs.JobList.{in-front, split, list-lines, parts, is-name, is-digit, decimal-value-from, decimal-value, fits, is-limit, limit-of, Job, with-limits, job-by, job-of}
 use Rattle.job_list.specs.ListLine.{IsLimit, ListLine, Gives}
 use Rattle.job_list.proofs.LimitLaws.{digit}
 use Rattle.job_list.proofs.LineLaws.{last-part}

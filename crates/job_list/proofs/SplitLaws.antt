@@ -55,18 +55,18 @@ split-closed c last (x ∷ xs) h = go (head c x xs) (split-closed c last xs)
     go (later t e) ih = rw (t, e) (ap (in-front x) (ih (omega (e, h, arith))))
 
 -- no c closes it: all is one text, whether `last` is no text or an empty one
-split-open :
+split-unclosed :
     (c : ℕ) (last : List (List ℕ)) (x : ℕ) (xs : List ℕ)
     → ((b : ℕ) → in-front b last ≡ (b ∷ []) ∷ [])
     → indexOf c (x ∷ xs) ≡ length (x ∷ xs)
     → split c last (x ∷ xs) ≡ (x ∷ xs) ∷ []
 unfolding split
-split-open c last x [] f h = go (head c x [])
+split-unclosed c last x [] f h = go (head c x [])
   where
     go : Head c x [] → split c last (x ∷ []) ≡ (x ∷ []) ∷ []
     go (here t e) = absurd (omega (e, h, arith))
     go (later t e) = rw t (f x)
-split-open c last x (y ∷ ys) f h = go (head c x (y ∷ ys)) (split-open c last y ys f)
+split-unclosed c last x (y ∷ ys) f h = go (head c x (y ∷ ys)) (split-unclosed c last y ys f)
   where
     go :
         Head c x (y ∷ ys)
@@ -79,10 +79,10 @@ split-open c last x (y ∷ ys) f h = go (head c x (y ∷ ys)) (split-open c last
 pub split-none : (c : ℕ) (xs : List ℕ) → indexOf c xs ≡ length xs → split c ([] ∷ []) xs ≡ xs ∷ []
 unfolding split
 split-none c [] e = refl
-split-none c (x ∷ xs) h = split-open c ([] ∷ []) x xs (λ b. refl) h
+split-none c (x ∷ xs) h = split-unclosed c ([] ∷ []) x xs (λ b. refl) h
 
 pub split-last : (c x : ℕ) (xs : List ℕ) → indexOf c (x ∷ xs) ≡ length (x ∷ xs) → split c [] (x ∷ xs) ≡ (x ∷ xs) ∷ []
-split-last c x xs = split-open c [] x xs (λ b. refl)
+split-last c x xs = split-unclosed c [] x xs (λ b. refl)
 
 -- what `find` says of a whole list, from an index on
 pub found : (c at : ℕ) (xs : List ℕ) (r : ℕ) → r ≡ at + indexOf c (slice at (length xs) xs) → r ≡ at + indexOf c (drop at xs)

@@ -1,11 +1,11 @@
 -- Document 02's job list: its lines, and what each gives. Assumes nothing.
 use Prim.Native.Nat.{ℕ, _+_, _-_, _*_, _^_, _≤_}
-use mathlib.Core.Bool.{Bool, true, false, cond, not, _&&_}
+use mathlib.Core.Bool.{Bool, cond, not, _&&_}
 use mathlib.Core.List.{List, [], _∷_}
 use mathlib.Core.Option.{Option, none, some}
 use lib.ListN.{length, take, drop}
 use lib.Dec.{leb, ltb, eqb}
-use Rattle.formula.specs.Formula.{all-of, member}
+use Rattle.formula.specs.Formula.{all-of, member, is-empty}
 use Rattle.rule_file.specs.Answer.{Answer, refused, answer, refuse-if}
 use Rattle.job_list.specs.declared.Limiting.{Limiting}
 use Rattle.job_list.specs.declared.Parsing.{Parsing}
@@ -31,10 +31,6 @@ list-lines = split 10 []
 -- the parts of a line, parted by one blank
 abbrev pub parts : List ℕ → List (List ℕ)
 parts = split 32 ([] ∷ [])
-
-abbrev pub is-empty : List ℕ → Bool
-is-empty [] = true
-is-empty (_ ∷ _) = false
 
 -- a name is not empty and has no byte 0; no part has a blank
 unfoldable pub is-name : List ℕ → Bool

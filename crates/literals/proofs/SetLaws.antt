@@ -1,5 +1,6 @@
--- Clauses as sets of literals: the level of a set; the other literals of two parents; and R.3's test of three sets.
--- Assumes nothing.
+-- Clauses as sets of literals. In order: the level of a set, by its length in digits; the other literals of two parents,
+-- as the union's digits under 2v; and R.3's test of three sets. Not here: R.2's test (BlockingLaws), membership and masks
+-- (bit_set's BitSetLaws). Assumes nothing.
 use mathlib.Core.Path.{_≡_, refl, sym, _∙_}
 use mathlib.Core.Logic.{_↔_, _≢_, ⊎-elim, ⊎-map}
 use mathlib.Core.Bool.{Bool, true, false}

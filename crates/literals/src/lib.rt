@@ -12,6 +12,5 @@ pub use denominator::LEVELS;
 pub use denominator::denominator_between;
 pub use denominator::denominators;
 pub use occurrence::OCCURRENCES;
-pub use occurrence::put_literals;
 pub use occurrence::put_occurrences;
 pub use resolvent::is_resolvent;

@@ -1,4 +1,4 @@
--- The repair's answer by the case of what it goes on from: the reader's refusal, 25, or the repaired file. Assumes
+-- The repair's answer by the case of what it goes on from: the repaired file, 25, or the reader's refusal. Assumes
 -- nothing.
 use mathlib.Core.Path.{_≡_, sym, ap, _∙_}
 use mathlib.Core.List.{List}
@@ -7,7 +7,7 @@ use lib.ListN.{length}
 use lib.Dec.{ltb}
 use borrow.Author.Tests.{lt-ltb, le-ltb, ltb-false}
 use Rattle.rule_file.specs.Limits.{stored-limits}
-use Rattle.rule_file.specs.Answer.{refused, answer, refuse-if, and-then}
+use Rattle.rule_file.specs.Answer.{refused, answer}
 use Rattle.rule_file.specs.Reader.{reading, read-stored}
 use Rattle.rule_file.specs.Accepted.{AcceptedWithin, header}
 use Rattle.rule_file.specs.declared.Header.{Header}
@@ -17,16 +17,6 @@ use Rattle.rule_file.specs.declared.Reading.{Reading}
 use Rattle.rule_file.specs.declared.Reading.the-variants as reading-variants
 use Rattle.rule_file.proofs.AcceptedLaws.{passed, passed-then, same-answer, answered-within, within-answers}
 use Rattle.repair.specs.Repair.{repaired-file, repair-file}
-
--- the reader of stored files, by the case of its answer
-module _ (b : List ℕ) (r : Reading) (e : reading r ≡ read-stored b) where
-  pub stored-accepted : (h : Header) → r ≡ reading-variants.Accepted h → AcceptedWithin stored-limits b × (h ≡ header b)
-  unfolding read-stored
-  stored-accepted h c = answered-within stored-limits b h (sym e ∙ ap reading c)
-
-  pub stored-refused : (k : Refusal) (capacity : ℕ) → r ≡ reading-variants.Refused k → repair-file b capacity ≡ refused k
-  unfolding repair-file
-  stored-refused k capacity c = ap (λ x. and-then x (λ _. refuse-if (ltb capacity (length b)) 25 (answer (repaired-file b)))) (sym e ∙ ap reading c)
 
 -- what is repaired was accepted by the reader of stored files, and the buffer is as long
 pub answered-repair : (b : List ℕ) (capacity : ℕ) (d : List ℕ) → repair-file b capacity ≡ answer d
@@ -46,3 +36,13 @@ repair-answers b capacity a h = rw (within-answers stored-limits b a, le-ltb _ _
 pub short-buffer : (b : List ℕ) (capacity : ℕ) → AcceptedWithin stored-limits b → capacity < length b → repair-file b capacity ≡ refused (Alone 25)
 unfolding repair-file read-stored
 short-buffer b capacity a h = rw (within-answers stored-limits b a, lt-ltb _ _ h)
+
+-- the reader of stored files, by the case of its answer
+module _ (b : List ℕ) (r : Reading) (e : reading r ≡ read-stored b) where
+  pub stored-accepted : (h : Header) → r ≡ reading-variants.Accepted h → AcceptedWithin stored-limits b × (h ≡ header b)
+  unfolding read-stored
+  stored-accepted h c = answered-within stored-limits b h (sym e ∙ ap reading c)
+
+  pub stored-refused : (k : Refusal) (capacity : ℕ) → r ≡ reading-variants.Refused k → repair-file b capacity ≡ refused k
+  unfolding repair-file
+  stored-refused k capacity c = rw (sym e ∙ ap reading c)

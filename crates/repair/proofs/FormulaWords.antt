@@ -1,7 +1,7 @@
 -- The words of clauses: those of more clauses, and that they fit 32 bits where the literals are in range; how many the
--- clauses of a file take, by where the next one stands and by a walk without fault, and that they stand in the file;
--- then document 01's reading of clauses where their words stand in a file: one clause, the clauses one after another,
--- and the walk over them. Assumes nothing of the file but that the words stand there.
+-- clauses of a file take, by where the next one stands and by a walk without fault; then document 01's reading of
+-- clauses where their words stand in a file: one clause, the clauses one after another, and the walk over them. Assumes
+-- nothing of the file but that the words stand there.
 use mathlib.Core.Path.{_≡_, refl, sym, ap, ap₂, _∙_}
 use mathlib.Core.Bool.{true, false}
 use mathlib.Core.List.{List, [], _∷_, _++_, append-assoc}
@@ -17,12 +17,12 @@ use Rattle.formula.proofs.SomeLaws.{none-first, none-rest}
 use Rattle.formula.proofs.Membership.{in-range-iff}
 use Rattle.rule_file.specs.Limits.{max-variables}
 use Rattle.rule_file.specs.Walk.{start, elements, later, walk}
-use Rattle.rule_file.specs.Words.{word, next-word, words}
+use Rattle.rule_file.specs.Words.{word, next-word}
 use Rattle.rule_file.specs.RuleFile.{after-clause, clause-at, clause-start, clauses-from}
 use Rattle.rule_file.specs.Reader.{clause-fits, walk-clauses}
 use Rattle.rule_file.proofs.WalkLaws.{start-next, elements-length, step-on, walked-end}
 use Rattle.rule_file.proofs.ClauseLaws.{fits-by-length}
-use Rattle.rule_file.proofs.WordsLaws.{Stand, stand-word, stand-first, stand-rest, stand-append}
+use Rattle.rule_file.proofs.WordsLaws.{Stand, stand-word, stand-first, stand-rest}
 use Rattle.word_writer.proofs.WordsBack.{FitWords, fit-nil, fit-cons, fit-append}
 use Rattle.repair.specs.File.{formula-words}
 
@@ -63,15 +63,6 @@ module _ (b : List ℕ) where
   -- so those of all clauses, where a walk without fault ends
   pub formula-end : (n end count : ℕ) → walk-clauses b n end count 0 ≡ none → length (formula-words (clauses-from b count 0)) ≡ end
   formula-end n end count w = formula-start count ∙ walked-end (after-clause b) (clause-fits b n end) end count 0 w
-
-  -- the words of j clauses from word i on stand there
-  pub clauses-stand : (j i : ℕ) → Stand b i (formula-words (clauses-from b j i))
-  unfolding formula-words elements
-  clauses-stand zero i = refl
-  clauses-stand (suc j) i =
-      let c = clause-at b i in
-      let first : Stand b i (length c ∷ c) = λ k. sym (size-is i) k ∷ words b (i + 1) (size-is i k) in
-      stand-append b i (length c ∷ c) _ first (after-clause b i) (omega (arith, size-is i)) (clauses-stand j (after-clause b i))
 
 -- Reading back
 

@@ -1,4 +1,4 @@
--- What the repaired formula means: it is met where the formula is, and has its figure. Assumes nothing.
+-- What the repaired formula means: it is satisfied where the formula is, and has its figure. Assumes nothing.
 use Prim.Native.Nat.{ℕ, _%_, _≤_}
 use native.Mathlib.Decide.{ℕ-discrete}
 use native.Mathlib.Omega.{arith}
@@ -22,8 +22,8 @@ use Rattle.repair.specs.Clauses.{tautological, kept, repaired}
 use Rattle.repair.proofs.ListLaws.{tautological-iff, kept-iff}
 
 -- an assignment that sets the variables of a tautological clause makes one of its literals true
-tautological-met : (n : ℕ) (p : List ℕ) → n ≤ length p → (c : List ℕ) → out-of-range n c ≡ false → tautological c ≡ true → Some (TrueLiteral p) c
-tautological-met n p h c in-range is =
+tautological-satisfied : (n : ℕ) (p : List ℕ) → n ≤ length p → (c : List ℕ) → out-of-range n c ≡ false → tautological c ≡ true → Some (TrueLiteral p) c
+tautological-satisfied n p h c in-range is =
     let (l, m, m′) = tautological-iff c .0 is in
     go l m m′ (ℕ-discrete (getD p (variable l) 0) (l % 2))
   where
@@ -34,25 +34,25 @@ tautological-met n p h c in-range is =
         (opposite l, m′, rw same (omega (arith, in-range-iff n c .0 in-range l m), λ e. omega arith))
 
 module _ (n : ℕ) (p : List ℕ) (h : n ≤ length p) (φ : List (List ℕ)) (in-range : some-of (out-of-range n) φ ≡ false) where
-  pub repaired-met : Met p (repaired φ) ↔ Met p φ
-  repaired-met = (λ met c m. back met c m (tautological c) refl, there)
+  pub repaired-satisfied : Met p (repaired φ) ↔ Met p φ
+  repaired-satisfied = (λ satisfied c m. back satisfied c m (tautological c) refl, there)
     where
       back : Met p (repaired φ) → (c : List ℕ) → c ∈ φ → (t : Bool) → tautological c ≡ t → Some (TrueLiteral p) c
-      back met c m true e = tautological-met n p h c (none-of (out-of-range n) in-range m) e
-      back met c m false e =
-          let (l, i, is) = met (rising c) (Memᴰ·map rising (kept-iff φ c .1 (m, e))) in (l, rising-in l c .0 i, is)
+      back satisfied c m true e = tautological-satisfied n p h c (none-of (out-of-range n) in-range m) e
+      back satisfied c m false e =
+          let (l, i, is) = satisfied (rising c) (Memᴰ·map rising (kept-iff φ c .1 (m, e))) in (l, rising-in l c .0 i, is)
 
       there : Met p φ → Met p (repaired φ)
-      there met d m =
+      there satisfied d m =
           let (c, k, e) = Memᴰ·of-map rising (kept φ) m in
-          let (l, i, is) = met c (kept-iff φ c .0 k .0) in (l, rw e at (rising-in l c .1 i), is)
+          let (l, i, is) = satisfied c (kept-iff φ c .0 k .0) in (l, rw e at (rising-in l c .1 i), is)
 
   -- and so a leaf of the one tree satisfies where that of the other does
   repaired-satisfies : satisfies (repaired φ) p ≡ satisfies φ p
   repaired-satisfies =
       let same : is-satisfied (formula-status p (repaired φ)) ≡ is-satisfied (formula-status p φ) = same-truth (
-        λ e. rw (satisfied-iff-met p φ .1 (repaired-met .0 (satisfied-iff-met p (repaired φ) .0 (is-satisfied-true _ e)))),
-        λ e. rw (satisfied-iff-met p (repaired φ) .1 (repaired-met .1 (satisfied-iff-met p φ .0 (is-satisfied-true _ e)))),
+        λ e. rw (satisfied-iff-met p φ .1 (repaired-satisfied .0 (satisfied-iff-met p (repaired φ) .0 (is-satisfied-true _ e)))),
+        λ e. rw (satisfied-iff-met p (repaired φ) .1 (repaired-satisfied .1 (satisfied-iff-met p φ .0 (is-satisfied-true _ e)))),
       ) in
       ap (λ t. cond t 1 0) same
 

@@ -23,7 +23,7 @@ use Rattle.repair.specs.Repair.{repaired-file, repair-file, repair-answe
 use Rattle.repair.specs.declared.Repairs.{Repairs}
 use Rattle.repair.specs.Claims.{RepairedTo, RepairedInto}
 use Rattle.repair.proofs.ListLaws.{repaired-ordered, repaired-in-range, ordered-repaired}
-use Rattle.repair.proofs.MeaningLaws.{repaired-met, repaired-figure}
+use Rattle.repair.proofs.MeaningLaws.{repaired-satisfied, repaired-figure}
 use Rattle.repair.proofs.ReadBack.{same-prefix}
 use Rattle.repair.proofs.AnswerLaws.{answered-repair, repair-answers}
 use Rattle.repair.proofs.RepairLaws.{not-longer, few-repaired, repaired-reads, in-order-counts}
@@ -79,7 +79,7 @@ module _ (b : List ℕ) (a : AcceptedWithin stored-limits b) where
   repaired-to =
       let r = repaired-reads b a in
       record {
-        same-assignments = λ p n. rw (r .clauses-are) (repaired-met (variable-count b) p (omega arith) (clauses b) (a .in-range));
+        same-assignments = λ p n. rw (r .clauses-are) (repaired-satisfied (variable-count b) p (omega arith) (clauses b) (a .in-range));
         same-variables = r .variable-count-is;
         same-weights = r .weights-are;
         same-prefix = prefix-is;

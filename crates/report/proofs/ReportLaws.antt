@@ -1,12 +1,13 @@
--- The report's text, by the case of what the reader answered; and that the figure and the cuts printed are those that
--- the operations answer. Assumes nothing.
-use mathlib.Core.Path.{_≡_, refl, sym, ap, _∙_}
-use mathlib.Core.List.{List}
-use Prim.Native.Nat.{ℕ, _≤_}
+-- The report's text. In order: by the case of what the reader answered; from the table of the cuts; and that the figure
+-- and the cuts printed are those that the operations answer. Assumes nothing.
+use mathlib.Core.Path.{_≡_, refl, sym, ap, ap₂, _∙_}
+use mathlib.Core.List.{List, _++_}
+use Prim.Native.Nat.{ℕ, zero, suc, _≤_, _<_}
+use native.Mathlib.Omega.{arith}
 use Rattle.rule_file.specs.RuleFile.{variable-count, whole}
 use Rattle.rule_file.specs.Answer.{answer}
 use Rattle.rule_file.specs.Reader.{reading, read-file}
-use Rattle.rule_file.specs.Accepted.{Accepted}
+use Rattle.rule_file.specs.Accepted.{Accepted, header}
 use Rattle.rule_file.specs.declared.Header.{Header}
 use Rattle.rule_file.specs.declared.Refusal.{Refusal}
 use Rattle.rule_file.specs.declared.Reading.{Reading}
@@ -16,7 +17,10 @@ use Rattle.value.proofs.ValueLaws.{figure-answers}
 use Rattle.bounds.specs.Cut.{cut-of, cut-file}
 use Rattle.bounds.specs.declared.Bounds.{Bounds}
 use Rattle.bounds.proofs.CutAnswer.{cut-answers}
-use Rattle.report.specs.Report.{refusal-line, bounds-line, cut-line, accepted-text, text-by, report-text}
+use Rattle.search.specs.Level.{cut-table}
+use Rattle.search.proofs.AnswerLaws.{figure-last}
+use Rattle.search.proofs.CutsLaws.{cut-at}
+use Rattle.report.specs.Report.{refusal-line, cut-line, cut-lines, at-level, head-text, accepted-text, text-by, report-text}
 
 module _ (b : List ℕ) (r : Reading) (e : reading r ≡ read-file b) where
   pub report-refused : (k : Refusal) → r ≡ reading-variants.Refused k → report-text b ≡ refusal-line k
@@ -27,10 +31,26 @@ module _ (b : List ℕ) (r : Reading) (e : reading r ≡ read-file b) where
   unfolding report-text
   report-accepted h c = ap (text-by b) (sym e ∙ ap reading c)
 
--- the line of the cut that the code has
-pub cut-line-by : (b : List ℕ) (d : ℕ) (x : Bounds) → x ≡ cut-of b d → cut-line b d ≡ bounds-line d x
-unfolding cut-line
-cut-line-by b d x e = ap (bounds-line d) (sym e)
+-- by other bounds that agree
+lines-agree : (cut cut′ : ℕ → Bounds) (k : ℕ) → ((d : ℕ) → d < k → cut d ≡ cut′ d) → cut-lines cut k ≡ cut-lines cut′ k
+unfolding cut-lines
+lines-agree cut cut′ zero same = refl
+lines-agree cut cut′ (suc k) same = ap₂ (λ text x. text ++ cut-line k x) (lines-agree cut cut′ k (λ d h. same d (omega arith))) (same k (omega arith))
+
+-- the text from the table that the search makes
+module _ (b : List ℕ) {cuts : List Bounds} (accepted : Accepted b) (are : cuts ≡ cut-table b) where
+  tabled : (d : ℕ) → d < suc (variable-count b) → at-level cuts d ≡ cut-of b d
+  tabled d h = ap (λ table. at-level table d) are ∙ cut-at b (suc (variable-count b)) d _ h
+
+  figure-tabled : at-level cuts (variable-count b) .lower ≡ figure-of b
+  figure-tabled = ap (λ x. x .lower) (tabled (variable-count b) (omega arith)) ∙ figure-last accepted refl
+
+  pub text-tabled : {h : Header} → h ≡ header b
+      → head-text h (at-level cuts (h .variables) .lower) ++ cut-lines (at-level cuts) (suc (h .variables)) ≡ accepted-text b
+  unfolding accepted-text
+  text-tabled header-is =
+      ap (λ h. head-text h (at-level cuts (h .variables) .lower) ++ cut-lines (at-level cuts) (suc (h .variables))) header-is
+      ∙ ap₂ (λ figure lines. head-text (header b) figure ++ lines) figure-tabled (lines-agree (at-level cuts) (cut-of b) (suc (variable-count b)) tabled)
 
 -- what is printed of an accepted file is what the operations answer
 module _ (b : List ℕ) (a : Accepted b) where

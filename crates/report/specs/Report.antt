@@ -1,6 +1,7 @@
 -- Document 01's program: the text that it prints for a rule file. Assumes nothing.
 use mathlib.Core.List.{List, [], _∷_, _++_}
 use Prim.Native.Nat.{ℕ, zero, suc}
+use lib.ListN.{getD}
 use Rattle.rule_file.specs.RuleFile.{variable-count}
 use Rattle.rule_file.specs.Answer.{Answer, refused, answer}
 use Rattle.rule_file.specs.Reader.{read-file}
@@ -19,16 +20,17 @@ refusal-line (Alone k) = line (ascii "refused") (k ∷ [])
 refusal-line (At k i) = line (ascii "refused") (k ∷ i ∷ [])
 
 -- a level, and the lower number, the upper number and the open weight of the cut there
-abbrev pub bounds-line : ℕ → Bounds → List ℕ
-bounds-line d x = line (ascii "cut") (d ∷ x .lower ∷ x .upper ∷ x .undetermined ∷ [])
-
-unfoldable pub cut-line : List ℕ → ℕ → List ℕ
-cut-line b d = bounds-line d (cut-of b d)
+unfoldable pub cut-line : ℕ → Bounds → List ℕ
+cut-line d x = line (ascii "cut") (d ∷ x .lower ∷ x .upper ∷ x .undetermined ∷ [])
 
 -- the lines of the first k levels
-unfoldable pub cut-lines : List ℕ → ℕ → List ℕ
-cut-lines b zero = []
-cut-lines b (suc k) = cut-lines b k ++ cut-line b k
+unfoldable pub cut-lines : (ℕ → Bounds) → ℕ → List ℕ
+cut-lines cut zero = []
+cut-lines cut (suc k) = cut-lines cut k ++ cut-line k (cut k)
+
+-- the bounds in a table
+abbrev pub at-level : List Bounds → ℕ → Bounds
+at-level cuts d = getD cuts d (record { lower = 0; upper = 0; undetermined = 0 })
 
 -- n, m, the whole and the figure
 unfoldable pub head-text : Header → ℕ → List ℕ
@@ -38,7 +40,7 @@ head-text h figure =
 
 -- then a line for each level from 0 to n
 unfoldable pub accepted-text : List ℕ → List ℕ
-accepted-text b = head-text (header b) (figure-of b) ++ cut-lines b (suc (variable-count b))
+accepted-text b = head-text (header b) (figure-of b) ++ cut-lines (cut-of b) (suc (variable-count b))
 
 -- by the reader's answer
 abbrev pub text-by : List ℕ → Answer Header → List ℕ

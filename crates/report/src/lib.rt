@@ -1,13 +1,13 @@
 // The text that the program prints for a rule file, byte for byte.
+use bounds::Bounds;
 use buffer::put_line;
 use rule_file::Header;
 use rule_file::Reading;
 use rule_file::Refusal;
-use rule_file::limits::MAX_CLAUSES;
 use rule_file::masks::clause_masks;
 use rule_file::read;
-use search::cut_of;
-use search::figure_of;
+use search::LEVELS;
+use search::cuts_of;
 ghost use mathlib.Core.Path.{_≡_};
 ghost use Prim.Native.Nat.{_+_, _*_, _≤_, suc};
 ghost use lib.ListN.{length, take, drop};
@@ -15,8 +15,7 @@ ghost use Rattle.io.specs.Counts.{Counts};
 ghost use Rattle.buffer.specs.Text.{Put};
 ghost use Rattle.rule_file.specs.Limits.{max-variables};
 ghost use Rattle.rule_file.specs.Accepted.{Accepted, header as header-of};
-ghost use Rattle.search.specs.Level.{Listed};
-ghost use Rattle.report.specs.Report.{refusal-line, cut-line, cut-lines, head-text, accepted-text, report-text};
+ghost use Rattle.report.specs.Report.{refusal-line, cut-line, cut-lines, at-level, head-text, accepted-text, report-text};
 
 // A refusal's line, with its place where there is one: at most 50 bytes.
 pub fn put_refusal(out: &mut [u8], at: usize, refusal: Refusal) -> usize
@@ -32,21 +31,11 @@ pub fn put_refusal(out: &mut [u8], at: usize, refusal: Refusal) -> usize
 }
 
 // The line of the cut at a level: at most 88 bytes.
-fn put_cut(
-    rule: &[u8],
-    header: Header,
-    masks: &[u64; MAX_CLAUSES],
-    level: usize,
-    out: &mut [u8],
-    at: usize,
-) -> usize
-    requires { ⌜ Listed (now rule) header (now masks) ⌝ }
-    requires { ⌜ level ≤ header .variables ⌝ }
+fn put_cut(level: usize, x: Bounds, out: &mut [u8], at: usize) -> usize
     requires { ⌜ at + 88 ≤ length (now out) ⌝ }
-    ensures { λ r. ⌜ Put (now (out .entry)) at (cut-line (now (rule .entry)) level) (now (out .exit)) r ⌝ }
+    ensures { λ r. ⌜ Put (now (out .entry)) at (cut-line level x) (now (out .exit)) r ⌝ }
     ensures { λ r. ⌜ r ≤ at + 88 ⌝ }
 {
-    let x = cut_of(rule, header, masks, level);
     put_line(
         out,
         at,
@@ -55,23 +44,16 @@ fn put_cut(
     )
 }
 
-// The lines of the cuts at levels 0 to n.
-fn put_cuts(
-    rule: &[u8],
-    header: Header,
-    masks: &[u64; MAX_CLAUSES],
-    out: &mut [u8],
-    at: usize,
-) -> usize
-    requires { ⌜ Listed (now rule) header (now masks) ⌝ }
+// The lines of the cuts at levels 0 to n, which stand in a table.
+fn put_cuts(n: usize, cuts: [Bounds; LEVELS], out: &mut [u8], at: usize) -> usize
+    requires { ⌜ n ≤ max-variables ⌝ }
     requires { ⌜ at + 88 * suc max-variables ≤ length (now out) ⌝ }
-    ensures { λ r. ⌜ Put (now (out .entry)) at (cut-lines (now (rule .entry)) (suc (header .variables))) (now (out .exit)) r ⌝ }
+    ensures { λ r. ⌜ Put (now (out .entry)) at (cut-lines (at-level cuts) (suc n)) (now (out .exit)) r ⌝ }
 {
-    let n = header.variables;
     let mut end = at;
     let mut level = 0;
     while level <= n {
-        end = put_cut(rule, header, masks, level, out, end);
+        end = put_cut(level, cuts[level], out, end);
         level += 1;
     }
     end
@@ -89,7 +71,7 @@ fn put_head(header: Header, figure: u64, out: &mut [u8]) -> usize
     put_line(out, whole, b"value", &[figure])
 }
 
-// What is printed for an accepted file: at most 3,015 bytes. The table of masks is made once.
+// What is printed for an accepted file: at most 3,015 bytes. The figure is the lower number at the last level.
 fn put_accepted(rule: &[u8], header: Header, out: &mut [u8]) -> usize
     requires { ⌜ Accepted (now rule) ⌝ }
     requires { ⌜ header ≡ header-of (now rule) ⌝ }
@@ -97,9 +79,11 @@ fn put_accepted(rule: &[u8], header: Header, out: &mut [u8]) -> usize
     ensures { λ r. ⌜ Put (now (out .entry)) 0 (accepted-text (now (rule .entry))) (now (out .exit)) r ⌝ }
 {
     let masks = clause_masks(rule, header);
-    let figure = figure_of(rule, header, &masks);
-    let end = put_head(header, figure, out);
-    put_cuts(rule, header, &masks, out, end)
+    let cuts = cuts_of(rule, header, &masks);
+    let n = header.variables;
+    let last = cuts[n];
+    let end = put_head(header, last.lower, out);
+    put_cuts(n, cuts, out, end)
 }
 
 // Writes what the program prints for a rule file, whatever its bytes are, at the start of `out`, and answers its

@@ -7,7 +7,7 @@ use mathlib.Core.Option.{Option, none, some}
 use Prim.Native.Nat.{ℕ}
 use native.Mathlib.Omega.{arith}
 use Rattle.formula.specs.Formula.{repeats, unordered}
-use Rattle.rule_file.specs.Limits.{rule-trailer, bench-limits, stored-limits}
+use Rattle.rule_file.specs.Limits.{rule-trailer, full-limits, stored-limits}
 use Rattle.rule_file.specs.Walk.{first}
 use Rattle.rule_file.specs.RuleFile.{clauses}
 use Rattle.rule_file.specs.Answer.{Answer, refused, answer, refuse-if, refuse-at, and-then}
@@ -87,16 +87,16 @@ within-answers limits b a =
       check-9 b .1 (a .bounded),
     )
 
--- the same of the bench's reader
+-- the same of the full reader
 pub answered : (b : List ℕ) (h : Header) → read-file b ≡ answer h → Accepted b × (h ≡ header b)
 unfolding read-file
-answered = answered-within bench-limits
+answered = answered-within full-limits
 
 pub accepted-answers : (b : List ℕ) → Accepted b → read-file b ≡ answer (header b)
 unfolding read-file
-accepted-answers = within-answers bench-limits
+accepted-answers = within-answers full-limits
 
--- what the bench's reader accepts, the reader of stored files does
+-- what the full reader accepts, the reader of stored files does
 pub stored-accepts : (b : List ℕ) → Accepted b → AcceptedWithin stored-limits b
 stored-accepts b a =
     record {

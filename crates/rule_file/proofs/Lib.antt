@@ -4,5 +4,6 @@ pub mod WordsLaws
 pub mod ClauseLaws
 pub mod PrefixLaws
 pub mod ReaderLaws
+pub mod StoredLaws
 pub mod AcceptedLaws
 pub mod TwoReaders

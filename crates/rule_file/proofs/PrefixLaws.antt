@@ -109,28 +109,28 @@ module _ (b : List ℕ) where
   last-part from = ap (drop from) (first-part (variable-count b) (le-refl _))
 
 -- the quantifiers are well-formed, and their denominator is at most the largest whole
-abbrev pub Within : List Quantifier → Type 0
-Within qs = (some-of malformed qs ≡ false) × (denominator qs ≤ max-whole)
+abbrev pub WithinWhole : List Quantifier → Type 0
+WithinWhole qs = (some-of malformed qs ≡ false) × (denominator qs ≤ max-whole)
 
-module _ (qs rs : List Quantifier) (h : Within (qs ++ rs)) where
+module _ (qs rs : List Quantifier) (h : WithinWhole (qs ++ rs)) where
   both-well-formed : (some-of malformed qs ≡ false) × (some-of malformed rs ≡ false)
   both-well-formed = or-false _ _ (sym (some-of-append malformed qs rs) ∙ h .0)
 
   product-within : denominator rs * denominator qs ≤ max-whole
   product-within = rw denominator-append at (h .1)
 
-  first-within : Within qs
+  first-within : WithinWhole qs
   first-within =
       (both-well-formed .0, le-trans (rw mul-comm (le-mul-of-pos-right (denominator qs) (denominator-pos rs (both-well-formed .1)))) product-within)
 
-  second-within : Within rs
+  second-within : WithinWhole rs
   second-within = (both-well-formed .1, le-trans (le-mul-of-pos-right (denominator rs) (denominator-pos qs (both-well-formed .0))) product-within)
 
 pub part-within :
-    (b : List ℕ) → Accepted b → (from to : ℕ) → from ≤ to → to ≤ variable-count b → Within (prefix-from b (to - from) (prefix-start b + 2 * from))
+    (b : List ℕ) → Accepted b → (from to : ℕ) → from ≤ to → to ≤ variable-count b → WithinWhole (prefix-from b (to - from) (prefix-start b + 2 * from))
 part-within b a from to h k =
-    let whole : Within (prefix b) = (a .well-formed, a .bounded) in
-    let first : Within (take to (prefix b)) = first-within _ (drop to (prefix b)) (rw take-append-drop whole) in
+    let whole : WithinWhole (prefix b) = (a .well-formed, a .bounded) in
+    let first : WithinWhole (take to (prefix b)) = first-within _ (drop to (prefix b)) (rw take-append-drop whole) in
     rw (← (prefix-part-is b from to h k)) (second-within (take from (take to (prefix b))) _ (rw take-append-drop first))
 
 -- so is that of the prefix from a variable on

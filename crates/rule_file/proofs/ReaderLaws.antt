@@ -1,11 +1,12 @@
 -- The reader's answer, one check at a time: checks 1 to 4 and 9 with the fact that each decides, then what checks 5 to
 -- 8 speak of by the counts that a Trailer holds, and 6, 7 and 23 at once. What the checks over clauses and variables
 -- say is in ClauseLaws and PrefixLaws. Assumes nothing.
-use mathlib.Core.Path.{_≡_, refl, sym, ap, _∙_}
+use mathlib.Core.Path.{_≡_, refl, sym, ap, _∙_, subst}
 use mathlib.Core.Bool.{Bool, true, false}
 use mathlib.Core.List.{List, [], _∷_}
 use mathlib.Core.Option.{Option, none, some}
 use Prim.Native.Nat.{ℕ, _+_, _-_, _*_, _≤_}
+use native.Mathlib.Omega.{arith}
 use borrow.Author.Tests.{le-ltb, ltb-false}
 use Rattle.formula.specs.Formula.{some-of, out-of-range, repeats, unordered, ill-formed}
 use Rattle.formula.specs.Quantifier.{denominator}
@@ -15,11 +16,16 @@ use Rattle.rule_file.specs.Limits.{max-clauses, max-whole}
 use Rattle.rule_file.specs.Walk.{first}
 use Rattle.rule_file.specs.Words.{word-count, stated-count}
 use Rattle.rule_file.specs.RuleFile.{clause-count, variable-count, prefix-start, clauses, clauses-from, prefix, prefix-from, whole}
-use Rattle.rule_file.specs.Answer.{refuse-at}
-use Rattle.rule_file.specs.Checks.{place, clause-fails, Trailer}
+use Rattle.rule_file.specs.Answer.{Answer, refused}
+use Rattle.rule_file.specs.Checks.{place, clause-fails, Trailer, TrailerRead}
+use Rattle.rule_file.specs.declared.clauses.ClauseCheck.the-variants.{OutOfRange, Repeats, IllFormed}
+use Rattle.rule_file.specs.declared.Header.{Header}
+use Rattle.rule_file.specs.declared.Refusal.{Refusal}
+use Rattle.rule_file.specs.declared.TrailerReading.{TrailerReading}
+use Rattle.rule_file.specs.declared.TrailerReading.the-variants as trailer-reading
 use Rattle.rule_file.specs.declared.Found.{Found}
 use Rattle.rule_file.specs.declared.Found.the-variants as found-variants
-use Rattle.rule_file.specs.Reader.{wrong-count, too-many, wrong-prefix, too-large, walk-clauses, malformed, asked, read-from-6, read-from-8}
+use Rattle.rule_file.specs.Reader.{wrong-count, too-many, wrong-prefix, too-large, walk-clauses, malformed, asked, read-from-5}
 use Rattle.rule_file.proofs.WalkLaws.{first-none, none-first-place, first-either}
 use Rattle.rule_file.proofs.WordsLaws.{Decides, differs}
 
@@ -44,16 +50,16 @@ module _ (b : List ℕ) (m n start : ℕ) (t : Trailer b m n start) where
   pub walk-is : walk-clauses b (variable-count b) (prefix-start b) (clause-count b) 0 ≡ walk-clauses b n start m 0
   walk-is = rw (← (t .variable-count-is), ← (t .prefix-start-is), ← (t .clause-count-is))
 
-  pub check-6 : first (out-of-range (variable-count b)) (clauses b) ≡ first (clause-fails n 6) (clauses-from b m 0)
+  pub check-6 : first (out-of-range (variable-count b)) (clauses b) ≡ first (clause-fails n OutOfRange) (clauses-from b m 0)
   unfolding clause-fails
   check-6 = rw (← (t .variable-count-is), ← (t .clause-count-is))
 
-  pub check-7 : first repeats (clauses b) ≡ first (clause-fails n 7) (clauses-from b m 0)
+  pub check-7 : first repeats (clauses b) ≡ first (clause-fails n Repeats) (clauses-from b m 0)
   unfolding clause-fails
   check-7 = rw (← (t .clause-count-is))
 
   -- 6, 7 and 23 at once
-  pub check-literals : first (ill-formed (variable-count b)) (clauses b) ≡ first (clause-fails n 23) (clauses-from b m 0)
+  pub check-literals : first (ill-formed (variable-count b)) (clauses b) ≡ first (clause-fails n IllFormed) (clauses-from b m 0)
   unfolding clause-fails
   check-literals = rw (← (t .variable-count-is), ← (t .clause-count-is))
 
@@ -80,19 +86,6 @@ pub not-asked : (f : List ℕ → Bool) (φ : List (List ℕ)) → first (asked 
 unfolding first
 not-asked f [] = refl
 not-asked f (c ∷ φ) = rw (not-asked f φ)
-
--- and one that finds nothing finds nothing where it is not asked
-pub asked-none : (ordered : Bool) (f : List ℕ → Bool) (φ : List (List ℕ)) → first f φ ≡ none → first (asked ordered f) φ ≡ none
-asked-none true f φ e = e
-asked-none false f φ e = not-asked f φ
-
--- past 6, where neither 7 nor 23 is asked
-pub past-range : (b : List ℕ) → first (out-of-range (variable-count b)) (clauses b) ≡ none → read-from-6 false b ≡ read-from-8 b
-unfolding read-from-6
-past-range b six =
-    ap (λ o. refuse-at o 6 (refuse-at (first (asked false repeats) (clauses b)) 7 (refuse-at (first (asked false unordered) (clauses b)) 23 (read-from-8 b)))) six
-    ∙ ap (λ o. refuse-at o 7 (refuse-at (first (asked false unordered) (clauses b)) 23 (read-from-8 b))) (not-asked repeats (clauses b))
-    ∙ ap (λ o. refuse-at o 23 (read-from-8 b)) (not-asked unordered (clauses b))
 
 -- 6, 7 and 23 at once: where no clause is ill-formed each is in order, and all three pass
 module _ (n : ℕ) (φ : List (List ℕ)) where
@@ -122,3 +115,18 @@ module _ {o : Option ℕ} {r : Found} (e : place r ≡ o) where
 
   pub found-at : {i : ℕ} → r ≡ found-variants.At i → o ≡ some i
   found-at c = sym e ∙ ap place c
+
+-- 7 is not one of the other checks
+pub range-not-repeats : OutOfRange ≡ Repeats → ⊥
+range-not-repeats e = let z : _≡_ {A = ℕ} 0 1 = cc in omega arith
+
+pub ill-formed-not-repeats : IllFormed ≡ Repeats → ⊥
+ill-formed-not-repeats e = let z : _≡_ {A = ℕ} 0 1 = cc in omega arith
+
+-- what checks 1 to 4 leave, for a caller that goes by the case of it
+module _ (b : List ℕ) (ordered : Bool) (whole : Answer Header) {r : TrailerReading} (e : TrailerRead b ordered whole r) where
+  pub trailer-refused : {k : Refusal} → r ≡ trailer-reading.Refused k → whole ≡ refused k
+  trailer-refused c = subst (TrailerRead b ordered whole) c e
+
+  pub trailer-passed : {m n start : ℕ} → r ≡ trailer-reading.Passed m n start → Trailer b m n start × (whole ≡ read-from-5 ordered b)
+  trailer-passed c = subst (TrailerRead b ordered whole) c e

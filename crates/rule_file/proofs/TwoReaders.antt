@@ -1,5 +1,5 @@
 -- Two readers, one chain of checks within other limits: where they agree, and what the one with the tighter limits
--- refuses beside. Over any limits, and then of the bench's reader and the small one. Assumes nothing.
+-- refuses beside. Over any limits, and then of the full reader and the small one. Assumes nothing.
 use mathlib.Core.Path.{_≡_, refl, sym, _∙_}
 use mathlib.Core.Bool.{Bool, true, false}
 use mathlib.Core.Logic.{_⊎_, inl, inr, _↔_}
@@ -9,7 +9,7 @@ use native.Mathlib.Nat.{le-trans, lt-of-not-le, not-le-of-lt}
 use native.Mathlib.Decide.{decLe}
 use lib.Dec.{lit≤}
 use lib.ListN.{length}
-use Rattle.rule_file.specs.Limits.{rule-trailer, bench-limits, small-limits}
+use Rattle.rule_file.specs.Limits.{rule-trailer, full-limits, small-limits}
 use Rattle.rule_file.specs.Words.{wrong-length}
 use Rattle.rule_file.specs.RuleFile.{variable-count}
 use Rattle.rule_file.specs.Answer.{refused, answer}
@@ -89,25 +89,25 @@ module _ (k l : Limits) (tighter : Tighter k l) (b : List ℕ) where
       by-case (over-bytes _ r) = inl r
       by-case (over-variables _ _ _ r) = inr r
 
--- The small reader beside the bench's
+-- The small reader beside the full one
 
-small-is-tighter : Tighter small-limits bench-limits
+small-is-tighter : Tighter small-limits full-limits
 small-is-tighter = record { bytes = lit≤ tt; variables = lit≤ tt; ordered = refl }
 
 module _ (b : List ℕ) where
   pub small-same : WithinLimits small-limits b → read-small b ≡ read-file b
   unfolding read-small read-file
-  small-same = same-within small-limits bench-limits small-is-tighter b
+  small-same = same-within small-limits full-limits small-is-tighter b
 
   pub small-accepts : (h : Header) → (read-small b ≡ answer h) ↔ ((read-file b ≡ answer h) × WithinLimits small-limits b)
   unfolding read-small read-file
-  small-accepts = accepts-within small-limits bench-limits small-is-tighter b
+  small-accepts = accepts-within small-limits full-limits small-is-tighter b
 
   pub small-refuses : (h : Header) → read-file b ≡ answer h → ¬ WithinLimits small-limits b
       → (read-small b ≡ refused (Alone 1)) ⊎ (read-small b ≡ refused (Alone 3))
   unfolding read-small read-file
-  small-refuses = refuses-beyond small-limits bench-limits small-is-tighter b
+  small-refuses = refuses-beyond small-limits full-limits small-is-tighter b
 
   pub small-compared : Compared small-limits b (read-small b) (read-file b)
   unfolding read-small read-file
-  small-compared = compare small-limits bench-limits small-is-tighter b
+  small-compared = compare small-limits full-limits small-is-tighter b

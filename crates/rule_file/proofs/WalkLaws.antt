@@ -241,8 +241,8 @@ module _ (next : ℕ → ℕ) (fits : ℕ → Bool) (end : ℕ) where
   unfolding from
   walk-ended count j i h e = rw (walk-over count j i h, eq-eqb i end e)
 
-  pub walk-missed : (count j i : ℕ) → count ≤ j → (i ≡ end → ⊥) → from j (walk next fits end (count - j) i) ≡ some j
-  walk-missed count j i h n = rw (walk-over count j i h, ne-eqb i end n) (from-here j)
+  pub walk-not-ended : (count j i : ℕ) → count ≤ j → (i ≡ end → ⊥) → from j (walk next fits end (count - j) i) ≡ some j
+  walk-not-ended count j i h n = rw (walk-over count j i h, ne-eqb i end n) (from-here j)
 
   -- a walk without fault: each element fits, and the walk from the next one is without fault
   walked-fits : (left i : ℕ) → walk next fits end (suc left) i ≡ none → fits i ≡ true

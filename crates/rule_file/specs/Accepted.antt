@@ -1,4 +1,4 @@
--- What a reader's checks leave true of a file: what the layers above are given, of the bench's reader. That it is
+-- What a reader's checks leave true of a file: what the layers above are given, of the full reader. That it is
 -- exactly the reader's acceptance is proved. Assumes nothing.
 use mathlib.Core.Path.{_≡_}
 use mathlib.Core.Bool.{false}
@@ -7,7 +7,7 @@ use mathlib.Core.Option.{none}
 use Prim.Native.Nat.{ℕ, _+_, _-_, _*_, _%_, _≤_}
 use lib.ListN.{length}
 use Rattle.formula.specs.Formula.{some-of, out-of-range, unordered}
-use Rattle.rule_file.specs.Limits.{rule-trailer, max-clauses, max-whole, bench-limits}
+use Rattle.rule_file.specs.Limits.{rule-trailer, max-clauses, max-whole, full-limits}
 use Rattle.rule_file.specs.Words.{word-count, stated-count}
 use Rattle.rule_file.specs.RuleFile.{clause-count, variable-count, prefix-start, clauses, prefix, whole}
 use Rattle.rule_file.specs.Reader.{walk-clauses, malformed, asked}
@@ -34,9 +34,9 @@ pub record AcceptedWithin (limits : Limits) (b : List ℕ) : Type 0 where
   pub well-formed : some-of malformed (prefix b) ≡ false
   pub bounded : whole b ≤ max-whole
 
--- by the bench's reader
+-- by the full reader
 abbrev pub Accepted : List ℕ → Type 0
-Accepted = AcceptedWithin bench-limits
+Accepted = AcceptedWithin full-limits
 
 -- n, m, the prefix's start and the whole
 abbrev pub header : List ℕ → Header

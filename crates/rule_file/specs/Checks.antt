@@ -1,14 +1,21 @@
 -- How the reader's functions test and what they are given. What the code alone needs; assumes nothing.
 use mathlib.Core.Path.{_≡_}
-use mathlib.Core.Bool.{Bool, cond}
+use mathlib.Core.Bool.{Bool}
 use mathlib.Core.List.{List}
 use mathlib.Core.Option.{Option, none, some}
 use Prim.Native.Nat.{ℕ, _+_, _*_, _≤_}
-use lib.Dec.{eqb}
 use Rattle.formula.specs.Formula.{out-of-range, repeats, ill-formed}
-use Rattle.rule_file.specs.Limits.{max-variables}
+use Rattle.rule_file.specs.Limits.{max-variables, max-clauses}
 use Rattle.rule_file.specs.Words.{word-count}
 use Rattle.rule_file.specs.RuleFile.{clause-count, variable-count, prefix-start}
+use Rattle.rule_file.specs.Answer.{Answer, refused}
+use Rattle.rule_file.specs.Reader.{read-from-5}
+use Rattle.rule_file.specs.declared.limits.Limits.{Limits}
+use Rattle.rule_file.specs.declared.Header.{Header}
+use Rattle.rule_file.specs.declared.TrailerReading.{TrailerReading}
+use Rattle.rule_file.specs.declared.TrailerReading.the-variants as trailer-reading
+use Rattle.rule_file.specs.declared.clauses.ClauseCheck.{ClauseCheck}
+use Rattle.rule_file.specs.declared.clauses.ClauseCheck.the-variants.{OutOfRange, Repeats, IllFormed}
 use Rattle.rule_file.specs.declared.Found.{Found}
 use Rattle.rule_file.specs.declared.Found.the-variants.{Nothing, At}
 
@@ -17,9 +24,11 @@ abbrev pub place : Found → Option ℕ
 place Nothing = none
 place (At i) = some i
 
--- 6 or 7 of one clause, by the check's number; by any other number, whether it fails 6, 7 or 23
-unfoldable pub clause-fails : ℕ → ℕ → List ℕ → Bool
-clause-fails n number c = cond (eqb number 6) (out-of-range n c) (cond (eqb number 7) (repeats c) (ill-formed n c))
+-- whether a check fails on a clause over n variables
+unfoldable pub clause-fails : ℕ → ClauseCheck → List ℕ → Bool
+clause-fails n OutOfRange = out-of-range n
+clause-fails n Repeats = repeats
+clause-fails n IllFormed = ill-formed n
 
 -- checks 1 to 4 are passed: the counts are the trailer's, and the prefix ends where the trailer begins
 pub record Trailer (b : List ℕ) (m n start : ℕ) : Type 0 where
@@ -27,4 +36,10 @@ pub record Trailer (b : List ℕ) (m n start : ℕ) : Type 0 where
   pub variable-count-is : n ≡ variable-count b
   pub prefix-start-is : start ≡ prefix-start b
   pub few-variables : n ≤ max-variables
+  pub few-clauses : m ≤ max-clauses
   pub ends : start + 2 * n + 4 ≤ word-count b
+
+-- what the checks up to 4 leave of a reader's answer: a refusal, or the rest of its checks, from 5 on
+abbrev pub TrailerRead : List ℕ → Bool → Answer Header → TrailerReading → Type 0
+TrailerRead b ordered whole (trailer-reading.Refused r) = whole ≡ refused r
+TrailerRead b ordered whole (trailer-reading.Passed m n start) = Trailer b m n start × (whole ≡ read-from-5 ordered b)

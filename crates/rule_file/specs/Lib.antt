@@ -1,6 +1,6 @@
 -- Rule files: limits, the words of a file, elements that stand one after another in it, what stands in a rule file, the
 -- code's quantifiers, what an operation answers, the readers' answers, what an accepted file holds, what is claimed of
--- two readers, and the clauses as masks.
+-- two readers, the clauses as masks, and the sets of a stored file's clauses.
 pub mod Limits
 pub mod Walk
 pub mod Words
@@ -12,3 +12,4 @@ pub mod Checks
 pub mod Accepted
 pub mod TwoReaders
 pub mod Masks
+pub mod Stored

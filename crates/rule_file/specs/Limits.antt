@@ -37,13 +37,13 @@ max-weight = 65535
 abbrev pub max-whole : ℕ
 max-whole = 2 ^ 60
 
--- the bench's reader, and the rack controller's small one
-abbrev pub bench-limits : Limits
-bench-limits = record { bytes = max-bytes; variables = max-variables; ordered = true }
+-- the full reader's limits, which document 02 calls the bench limits, and those of the rack controller's small one
+abbrev pub full-limits : Limits
+full-limits = record { bytes = max-bytes; variables = max-variables; ordered = true }
 
 abbrev pub small-limits : Limits
 small-limits = record { bytes = small-bytes; variables = small-variables; ordered = true }
 
--- what a repair takes: the bench's limits, with the literals of a clause in any order
+-- what a repair takes: the full reader's limits, with the literals of a clause in any order
 abbrev pub stored-limits : Limits
 stored-limits = record { bytes = max-bytes; variables = max-variables; ordered = false }

@@ -1,7 +1,7 @@
--- The reader's answer for every file: document 01's checks 1 to 9 and document 02's 23, in the order 1 to 7, 23, 8, 9,
--- each over the whole file before the next. 5, 6, 7 and 23 name the first clause at fault, and 8 the first variable.
--- One chain of checks for any limits, and three readers: the bench's, the small one, and the one of stored files, which
--- leaves 7 and 23 out. Assumes nothing.
+-- The reader's answer for every file: the documents' checks in their order, each over the whole file before the next. A
+-- check over clauses names the first clause at fault, and one over the prefix the first variable. One chain of checks
+-- for any limits, and three readers: the full one, the small one, and the one of stored files, which leaves out 7 and
+-- 23. Assumes nothing.
 use Prim.Native.Nat.{ℕ, _+_, _-_, _*_}
 use mathlib.Core.Bool.{Bool, false, not, _&&_, _||_}
 use mathlib.Core.List.{List}
@@ -9,7 +9,7 @@ use mathlib.Core.Option.{Option}
 use lib.Dec.{leb, ltb, eqb}
 use Rattle.formula.specs.Formula.{out-of-range, repeats, unordered}
 use Rattle.formula.specs.Quantifier.{Quantifier, existential, randomized}
-use Rattle.rule_file.specs.Limits.{rule-trailer, max-clauses, max-weight, max-whole, bench-limits, small-limits, stored-limits}
+use Rattle.rule_file.specs.Limits.{rule-trailer, max-clauses, max-weight, max-whole, full-limits, small-limits, stored-limits}
 use Rattle.rule_file.specs.Walk.{first, walk}
 use Rattle.rule_file.specs.Words.{word, word-count, wrong-length, stated-count}
 use Rattle.rule_file.specs.RuleFile.{clause-count, variable-count, prefix-start, after-clause, clauses, prefix, whole}
@@ -81,9 +81,9 @@ read-within limits b =
     (refuse-if (wrong-count b) 2
     (read-from-3 (limits .variables) (limits .ordered) b))
 
--- the bench's reader, on which every other operation stands
+-- the full reader, on which every other operation stands
 unfoldable pub read-file : List ℕ → Answer Header
-read-file = read-within bench-limits
+read-file = read-within full-limits
 
 -- the small reader
 unfoldable pub read-small : List ℕ → Answer Header

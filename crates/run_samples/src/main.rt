@@ -7,13 +7,11 @@
 // where one is given, or 0 and the values. The clause reader's values are the length and the literals of each clause,
 // and `none` where no clause is left. The writer's line and the repair's end in `right` if the record's derivation or
 // repaired file, or nothing, is what was written. The values of a job list are the number of its lines, and of each
-// line the length of the name and the limits, or `other`. A tally's line is the verdict's number alone, and the counts
-// after it.
+// line the length of the name and the limits, or `other`. A tally's line is the verdict's, a refusal's too, and the
+// counts after it.
 use bounds::Cutting;
-use clause_reader::cursor::Cursor;
 use clause_reader::cursor::Step;
-use clause_reader::cursor::clause_at;
-use clause_reader::cursor::start;
+use clause_reader::nth_clause;
 use derivation::Checking;
 use derivation::check;
 use job_list::Listing;
@@ -28,6 +26,7 @@ use repair::repair;
 use rule_file::Reading;
 use rule_file::Refusal;
 use rule_file::limits::MAX_BYTES;
+use rule_file::limits::MAX_CLAUSES;
 use rule_file::read;
 use rule_file::read_small;
 use rule_file::words::part;
@@ -37,9 +36,9 @@ use search::figure;
 use search::verdict;
 use std::num::wrapping_add_usize;
 use tally::Tally;
+use tally::absorbed;
 use tally::begin;
 use tally::kind_of;
-use tally::step;
 use value::Figuring;
 use value::Judging;
 use writer::Deriving;
@@ -53,133 +52,126 @@ const ROOM: usize = MAX_BYTES + 8;
 // What each byte holds that is lent to the writer or the repair.
 const BEFORE: u8 = 90;
 
-fn put(text: &[u8]) {
+fn print(text: &[u8]) {
     io::write_all(STDOUT_FILENO, text);
 }
 
-fn put_number(number: u32) {
+fn print_number(number: u32) {
     io::print_decimal(STDOUT_FILENO, number as u64);
 }
 
-fn put_value(value: u64) {
-    put(b" ");
+fn print_value(value: u64) {
+    print(b" ");
     io::print_decimal(STDOUT_FILENO, value);
 }
 
 // The number, and the place that it names.
-fn put_refusal(refusal: Refusal) {
+fn print_refusal(refusal: Refusal) {
     match refusal {
-        Refusal::Alone(number) => put_number(number),
+        Refusal::Alone(number) => print_number(number),
         Refusal::At(number, place) => {
-            put_number(number);
-            put_value(place as u64);
+            print_number(number);
+            print_value(place as u64);
         }
     }
 }
 
-fn put_reading(reading: Reading) {
+fn print_reading(reading: Reading) {
     match reading {
-        Reading::Refused(refusal) => put_refusal(refusal),
+        Reading::Refused(refusal) => print_refusal(refusal),
         Reading::Accepted(header) => {
-            put_number(0);
-            put_value(header.variables as u64);
-            put_value(header.clauses as u64);
-            put_value(header.prefix as u64);
-            put_value(header.whole);
+            print_number(0);
+            print_value(header.variables as u64);
+            print_value(header.clauses as u64);
+            print_value(header.prefix as u64);
+            print_value(header.whole);
         }
     }
 }
 
-fn put_figure(rule: &[u8]) {
+fn print_figure(rule: &[u8]) {
     match figure(rule) {
-        Figuring::Refused(refusal) => put_refusal(refusal),
+        Figuring::Refused(refusal) => print_refusal(refusal),
         Figuring::Answered(ratio) => {
-            put_number(0);
-            put_value(ratio.figure);
-            put_value(ratio.whole);
+            print_number(0);
+            print_value(ratio.figure);
+            print_value(ratio.whole);
         }
     }
 }
 
-fn put_verdict(rule: &[u8], lo: u64, hi: u64) {
-    match verdict(rule, lo, hi) {
-        Judging::Refused(refusal) => put_refusal(refusal),
-        Judging::Above => put(b"0 above"),
-        Judging::Below => put(b"0 below"),
+fn print_verdict(result: Judging) {
+    match result {
+        Judging::Refused(refusal) => print_refusal(refusal),
+        Judging::Above => print(b"0 above"),
+        Judging::Below => print(b"0 below"),
         Judging::Within(figure) => {
-            put(b"0 within");
-            put_value(figure);
+            print(b"0 within");
+            print_value(figure);
         }
     }
 }
 
-fn put_cut(rule: &[u8], level: u64) {
+fn print_cut(rule: &[u8], level: u64) {
     match cut(rule, level) {
-        Cutting::Refused(refusal) => put_refusal(refusal),
+        Cutting::Refused(refusal) => print_refusal(refusal),
         Cutting::Answered(bounds) => {
-            put_number(0);
-            put_value(bounds.lower);
-            put_value(bounds.upper);
-            put_value(bounds.undetermined);
+            print_number(0);
+            print_value(bounds.lower);
+            print_value(bounds.upper);
+            print_value(bounds.undetermined);
         }
     }
 }
 
-fn put_checking<'a>(rule: &'a [u8], derivation: &'a [u8]) {
+fn print_checking<'a>(rule: &'a [u8], derivation: &'a [u8]) {
     match check(rule, derivation) {
-        Checking::Refused(refusal) => put_refusal(refusal),
+        Checking::Refused(refusal) => print_refusal(refusal),
         Checking::Accepted(closing) => {
-            put_number(0);
-            put_value(closing.value);
-            put_value(closing.whole);
+            print_number(0);
+            print_value(closing.value);
+            print_value(closing.whole);
         }
     }
 }
 
-fn put_literals(clause: &[u8]) {
+fn print_literals(clause: &[u8]) {
     let length = clause.len() / 4;
-    put_value(length as u64);
+    print_value(length as u64);
     for i in 0..length {
-        put_value(word(clause, i) as u64);
+        print_value(word(clause, i) as u64);
     }
 }
 
-// What the clause reader gives at a cursor; the cursor after it.
-fn put_step(rule: &[u8], cursor: Cursor) -> Cursor {
-    match clause_at(rule, cursor) {
-        Step::Refused(refusal) => {
-            put_refusal(refusal);
-            cursor
-        }
+// What the clause reader gives of clause j; whether it was a clause.
+fn print_clause(rule: &[u8], j: usize) -> bool {
+    match nth_clause(rule, j) {
+        Step::Refused(_) => false,
         Step::Clause {
             number: _,
             start,
             length,
-            next,
+            next: _,
         } => {
-            put_literals(part(rule, start, length));
-            next
+            print_literals(part(rule, start, length));
+            true
         }
         Step::Done => {
-            put(b" none");
-            cursor
+            print(b" none");
+            false
         }
     }
 }
 
-// As many steps as the file has clauses, and one more, which finds none.
-fn put_clauses(rule: &[u8]) {
-    let mut cursor = start(rule);
-    match cursor {
-        Cursor::Refused(refusal) => put_refusal(refusal),
-        Cursor::At {
-            word: _,
-            number: _,
-            clauses,
-        } => {
-            put_number(0);
-            for _ in 0..=clauses {
-                cursor = put_step(rule, cursor);
+// Clause after clause, and that none is left. The bound only makes the loop end: no accepted file has more clauses.
+fn print_clauses(rule: &[u8]) {
+    match nth_clause(rule, 0) {
+        Step::Refused(refusal) => print_refusal(refusal),
+        _ => {
+            print_number(0);
+            let mut j = 0;
+            while j <= MAX_CLAUSES && print_clause(rule, j) {
+                j += 1;
             }
         }
     }
@@ -212,64 +204,64 @@ fn lent(room: &mut [u8], capacity: usize) -> &mut [u8] {
 }
 
 // Whether the buffer holds what the record says. The bytes after those that were lent are looked at too.
-fn put_holds<'a>(room: &'a [u8; ROOM], written: &'a [u8]) {
+fn print_holds<'a>(room: &'a [u8; ROOM], written: &'a [u8]) {
     if holds(room, written) {
-        put(b" right");
+        print(b" right");
     } else {
-        put(b" wrong");
+        print(b" wrong");
     }
 }
 
-fn put_deriving<'a>(rule: &'a [u8], capacity: usize, written: &'a [u8]) {
+fn print_deriving<'a>(rule: &'a [u8], capacity: usize, written: &'a [u8]) {
     let mut room = [BEFORE; ROOM];
     match derive(rule, lent(&mut room, capacity)) {
-        Deriving::Refused(refusal) => put_refusal(refusal),
+        Deriving::Refused(refusal) => print_refusal(refusal),
         Deriving::Answered(length) => {
-            put_number(0);
-            put_value(length as u64);
+            print_number(0);
+            print_value(length as u64);
         }
     }
-    put_holds(&room, written);
+    print_holds(&room, written);
 }
 
-fn put_repairing<'a>(rule: &'a [u8], capacity: usize, written: &'a [u8]) {
+fn print_repairing<'a>(rule: &'a [u8], capacity: usize, written: &'a [u8]) {
     let mut room = [BEFORE; ROOM];
     match repair(rule, lent(&mut room, capacity)) {
-        Repairing::Refused(refusal) => put_refusal(refusal),
+        Repairing::Refused(refusal) => print_refusal(refusal),
         Repairing::Repaired(counts) => {
-            put_number(0);
-            put_value(counts.bytes as u64);
-            put_value(counts.clauses as u64);
-            put_value(counts.literals as u64);
-            put_value(counts.reordered as u64);
+            print_number(0);
+            print_value(counts.bytes as u64);
+            print_value(counts.clauses as u64);
+            print_value(counts.literals as u64);
+            print_value(counts.reordered as u64);
         }
     }
-    put_holds(&room, written);
+    print_holds(&room, written);
 }
 
 // What a line of the list gives; the index behind it, which no list is long enough to wrap.
-fn put_job(list: &[u8], at: usize) -> usize {
+fn print_job(list: &[u8], at: usize) -> usize {
     let line = line_at(list, at);
     match parse(line) {
-        Parsing::Other => put(b" other"),
+        Parsing::Other => print(b" other"),
         Parsing::Job { name, lower, upper } => {
-            put_value(name as u64);
-            put_value(lower);
-            put_value(upper);
+            print_value(name as u64);
+            print_value(lower);
+            print_value(upper);
         }
     }
     wrapping_add_usize(wrapping_add_usize(at, line.len()), 1)
 }
 
-fn put_list(list: &[u8]) {
+fn print_list(list: &[u8]) {
     match read_list(list) {
-        Listing::Refused(refusal) => put_refusal(refusal),
+        Listing::Refused(refusal) => print_refusal(refusal),
         Listing::Lines(count) => {
-            put_number(0);
-            put_value(count as u64);
+            print_number(0);
+            print_value(count as u64);
             let mut at = 0;
             for _ in 0..count {
-                at = put_job(list, at);
+                at = print_job(list, at);
             }
         }
     }
@@ -289,39 +281,33 @@ fn tally_in(words: &[u8]) -> Tally {
     }
 }
 
-fn put_tally<'a>(rule: &'a [u8], lo: u64, hi: u64, counts: &'a [u8]) {
+fn print_tally<'a>(rule: &'a [u8], lo: u64, hi: u64, counts: &'a [u8]) {
     let result = verdict(rule, lo, hi);
-    match result {
-        Judging::Refused(refusal) => match refusal {
-            Refusal::Alone(number) => put_number(number),
-            Refusal::At(number, _) => put_number(number),
-        },
-        _ => put_number(0),
-    }
-    let tally = step(tally_in(counts), kind_of(result));
-    put_value(tally.files);
-    put_value(tally.refused);
-    put_value(tally.above);
-    put_value(tally.below);
-    put_value(tally.within);
+    print_verdict(result);
+    let tally = absorbed(tally_in(counts), kind_of(result));
+    print_value(tally.files);
+    print_value(tally.refused);
+    print_value(tally.above);
+    print_value(tally.below);
+    print_value(tally.within);
 }
 
-fn put_answer<'a>(operation: usize, a: u64, b: u64, rule: &'a [u8], derivation: &'a [u8]) {
+fn print_answer<'a>(operation: usize, a: u64, b: u64, rule: &'a [u8], derivation: &'a [u8]) {
     match operation {
-        1 => put_reading(read(rule)),
-        2 => put_figure(rule),
-        3 => put_verdict(rule, a, b),
-        4 => put_cut(rule, a),
-        5 => put_checking(rule, derivation),
-        6 => put_clauses(rule),
-        7 => put_deriving(rule, a as usize, derivation),
-        8 => put_list(rule),
-        9 => put_tally(rule, a, b, derivation),
-        10 => put_reading(read_small(rule)),
-        11 => put_repairing(rule, a as usize, derivation),
-        _ => put(b"no operation"),
+        1 => print_reading(read(rule)),
+        2 => print_figure(rule),
+        3 => print_verdict(verdict(rule, a, b)),
+        4 => print_cut(rule, a),
+        5 => print_checking(rule, derivation),
+        6 => print_clauses(rule),
+        7 => print_deriving(rule, a as usize, derivation),
+        8 => print_list(rule),
+        9 => print_tally(rule, a, b, derivation),
+        10 => print_reading(read_small(rule)),
+        11 => print_repairing(rule, a as usize, derivation),
+        _ => print(b"no operation"),
     }
-    put(b"\n");
+    print(b"\n");
 }
 
 // The number in words i and i + 1 of a record.
@@ -351,7 +337,7 @@ fn answer_next() -> bool {
     let mut derivation = [0; ROOM];
     let r = read_file(word(&head, 5), &mut rule);
     let d = read_file(word(&head, 6), &mut derivation);
-    put_answer(
+    print_answer(
         word(&head, 0),
         long(&head, 1),
         long(&head, 3),

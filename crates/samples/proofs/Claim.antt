@@ -14,7 +14,7 @@ use Rattle.bounds.specs.Cut.{cut-file}
 use Rattle.resolution.specs.Resolution.{level, is-resolvent, lookup, require, judge-resolvent, judge, first-refusal, judge-from, empty-value}
 use Rattle.derivation.specs.DerivationFile.{value-at, line-of, after-line}
 use Rattle.derivation.specs.Check.{wrong-counts, line-fits, check-from-21, check-from-17, check-from-15, check-from-13, check-file}
-use Rattle.writing.specs.Writing.{opposites-from, walk-tree}
+use Rattle.writing.specs.Writing.{path-opposites-from, walk-tree}
 use Rattle.writing.specs.File.{line-words, lines-words, derivation-words}
 use Rattle.writing.specs.Derive.{derivation-for, too-long, derive-file}
 use Rattle.repair.specs.Clauses.{first-occurrences, tautological, passing, literal-count}
@@ -22,7 +22,7 @@ use Rattle.repair.specs.File.{formula-words, rule-words}
 use Rattle.repair.specs.Repair.{repaired-file, repair-file, repair-answer}
 use Rattle.samples.specs.Samples.{Sample, ask, samples}
 
-pub samples-hold : map (λ (s : Sample). ask (s .question)) samples ≡ map (λ (s : Sample). s .outcome) samples
+pub samples-hold : map (λ (s : Sample). ask (s .question)) samples ≡ map (λ (s : Sample). s .expected) samples
 unfolding literal-status clause-status formula-status some-of all-of out-of-range repeats unordered ill-formed without insert-once rising equal
     unset-literals is-unit clash node-status
     denominator value evaluate
@@ -31,7 +31,7 @@ unfolding literal-status clause-status formula-status some-of all-of out-of-rang
     figure-file verdict verdict-file cut-file
     level is-resolvent lookup require judge-resolvent judge first-refusal judge-from empty-value
     value-at line-of after-line wrong-counts line-fits check-from-21 check-from-17 check-from-15 check-from-13 check-file
-    opposites-from walk-tree line-words lines-words derivation-words derivation-for too-long derive-file
+    path-opposites-from walk-tree line-words lines-words derivation-words derivation-for too-long derive-file
     first-occurrences tautological passing literal-count formula-words rule-words repaired-file repair-file repair-answer
     ask samples
 samples-hold = refl

@@ -30,17 +30,17 @@ pub data Question : Type 0 where
   repair : List ℕ → ℕ → Question
   repaired : List ℕ → ℕ → Question
 
-pub data Outcome : Type 0 where
-  stated : Answer Header → Outcome
-  figured : Answer Ratio → Outcome
-  judged : Answer Verdict → Outcome
-  bounded : Answer Bounds → Outcome
-  checked : Answer Closing → Outcome
-  written : Answer (List ℕ) → Outcome
-  counted : Answer Repairs → Outcome
+pub data Expected : Type 0 where
+  stated : Answer Header → Expected
+  figured : Answer Ratio → Expected
+  judged : Answer Verdict → Expected
+  bounded : Answer Bounds → Expected
+  checked : Answer Closing → Expected
+  written : Answer (List ℕ) → Expected
+  counted : Answer Repairs → Expected
 
 -- what the operation answers, by the definition that its contract cites
-unfoldable pub ask : Question → Outcome
+unfoldable pub ask : Question → Expected
 ask (read ws) = stated (read-file (bytes-of ws))
 ask (read-by-small ws) = stated (read-small (bytes-of ws))
 ask (figure ws) = figured (figure-file (bytes-of ws))
@@ -56,23 +56,23 @@ abbrev existentials : ℕ → List ℕ
 existentials n = replicate (2 * n) 0 ++ (0 ∷ n ∷ 0 ∷ (2 * n + 4) ∷ [])
 
 -- what a reader answers of them
-abbrev read-as : ℕ → Outcome
+abbrev read-as : ℕ → Expected
 read-as n = stated (answer (record { variables = n; clauses = 0; prefix = 0; whole = 1 }))
 
 -- a file with so many words of 0
-abbrev noughts : ℕ → List ℕ
-noughts k = replicate k 0
+abbrev zeros : ℕ → List ℕ
+zeros k = replicate k 0
 
 -- a figure out of a whole
-abbrev out-of : ℕ → ℕ → Outcome
+abbrev out-of : ℕ → ℕ → Expected
 out-of x w = figured (answer (record { figure = x; whole = w }))
 
 -- lower number, upper number and open weight
-abbrev between : ℕ → ℕ → ℕ → Outcome
+abbrev between : ℕ → ℕ → ℕ → Expected
 between l u o = bounded (answer (record { lower = l; upper = u; undetermined = o }))
 
 -- a refusal of number k that names the clause or variable i
-abbrev refused-at : ℕ → ℕ → Outcome
+abbrev refused-at : ℕ → ℕ → Expected
 refused-at k i = figured (refused (At k i))
 
 -- the words of m clauses, over a draw 3:1, a choice and a draw 7:3
@@ -80,19 +80,19 @@ abbrev over-three : ℕ → List ℕ → List ℕ
 over-three m ws = ws ++ (3 ∷ 1 ∷ 0 ∷ 0 ∷ 7 ∷ 3 ∷ m ∷ 3 ∷ length ws ∷ (length ws + 10) ∷ [])
 
 -- a file of these words
-abbrev written-as : List ℕ → Outcome
+abbrev written-as : List ℕ → Expected
 written-as ws = written (answer (bytes-of ws))
 
 -- the repaired file's length in bytes, clauses dropped, literals dropped and clauses reordered
-abbrev counts : ℕ → ℕ → ℕ → ℕ → Outcome
+abbrev counts : ℕ → ℕ → ℕ → ℕ → Expected
 counts n c l r = counted (answer (record { bytes = n; clauses = c; literals = l; reordered = r }))
 
 pub record Sample : Type 0 where
   pub question : Question
-  pub outcome : Outcome
+  pub expected : Expected
 
-abbrev sample : Question → Outcome → Sample
-sample q o = record { question = q; outcome = o }
+abbrev sample : Question → Expected → Sample
+sample q o = record { question = q; expected = o }
 
 -- document 01's example file, that of source document 004
 abbrev pub example : List ℕ
@@ -175,16 +175,16 @@ samples =
     sample (cut (2 ∷ 0 ∷ 2 ∷ 1 ∷ 1 ∷ 0 ∷ 0 ∷ 0 ∷ 0 ∷ 2 ∷ 2 ∷ 5 ∷ 13 ∷ []) 0) (between 0 1 1) ∷
     sample (cut (2 ∷ 0 ∷ 2 ∷ 1 ∷ 2 ∷ 1 ∷ 1 ∷ 0 ∷ 0 ∷ 2 ∷ 2 ∷ 5 ∷ 13 ∷ []) 1) (between 0 2 2) ∷
     sample (cut (2 ∷ 0 ∷ 2 ∷ 2 ∷ 1 ∷ 3 ∷ 1 ∷ 1 ∷ 0 ∷ 0 ∷ 2 ∷ 2 ∷ 6 ∷ 14 ∷ []) 1) (between 0 2 2) ∷
-    -- the small reader: 16 and 17 variables, and 33, which the bench's refuses too
+    -- the small reader: 16 and 17 variables, and 33, which the full one refuses too
     sample (read-by-small (existentials 16)) (read-as 16) ∷
     sample (read-by-small (existentials 17)) (stated (refused (Alone 3))) ∷
     sample (read (existentials 17)) (read-as 17) ∷
     sample (read (existentials 32)) (read-as 32) ∷
     sample (read (existentials 33)) (stated (refused (Alone 3))) ∷
     -- 4,096 bytes and 4,100, without a word count: 2 where the length is right
-    sample (read-by-small (noughts 1024)) (stated (refused (Alone 2))) ∷
-    sample (read-by-small (noughts 1025)) (stated (refused (Alone 1))) ∷
-    sample (read (noughts 1025)) (stated (refused (Alone 2))) ∷
+    sample (read-by-small (zeros 1024)) (stated (refused (Alone 2))) ∷
+    sample (read-by-small (zeros 1025)) (stated (refused (Alone 1))) ∷
+    sample (read (zeros 1025)) (stated (refused (Alone 2))) ∷
     -- a repair of {4, 0, 4}: a literal dropped and the others put in order; 25 for a buffer shorter than the file by a
     -- byte, although what is written would fit
     sample (repair (over-three 1 (3 ∷ 4 ∷ 0 ∷ 4 ∷ [])) 56) (counts 52 0 1 1) ∷

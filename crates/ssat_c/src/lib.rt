@@ -10,7 +10,6 @@ use derivation::check;
 use repair::Repairing;
 use repair::repair;
 use rule_file::Reading;
-use rule_file::Refusal;
 use rule_file::read;
 use rule_file::read_small;
 use search::cut;
@@ -20,14 +19,13 @@ use tally::Kind;
 use tally::Tally;
 use tally::absorb;
 use tally::kind_of;
-use value::Judging;
 use writer::Deriving;
 use writer::derive;
 ghost use mathlib.Core.Path.{_≡_};
 ghost use lib.ListN.{length};
 ghost use Rattle.rule_file.specs.Answer.{buffer-after};
 ghost use Rattle.rule_file.specs.Reader.{reading, read-file, read-small};
-ghost use Rattle.value.specs.Value.{judging, figure-file, verdict-file};
+ghost use Rattle.value.specs.Value.{figure-file, verdict-file};
 ghost use Rattle.bounds.specs.Cut.{cut-file};
 ghost use Rattle.derivation.specs.Check.{check-file};
 ghost use Rattle.writing.specs.Derive.{derive-file, length-of};
@@ -90,46 +88,38 @@ pub extern "C" fn ssat_verdict(rule: &[u8], lo: u64, hi: u64, out: &mut [u64; 4]
     hand_verdict(out, verdict(rule, lo, hi))
 }
 
-// A refusal's number, else 0.
-fn code_of(result: Judging) -> u32
-    ensures { λ r. ⌜ r ≡ code (judging result) ⌝ }
-{
-    match result {
-        Judging::Refused(refusal) => match refusal {
-            Refusal::Alone(number) => number,
-            Refusal::At(number, _) => number,
-        },
-        Judging::Above => 0,
-        Judging::Below => 0,
-        Judging::Within(_) => 0,
-    }
-}
-
 // The number that ssat_verdict returns, and the kind of the result.
 struct Judged {
     number: u32,
     kind: Kind,
 }
 
-// Both, of one verdict.
-fn judge(rule: &[u8], lo: u64, hi: u64) -> Judged
-    ensures { λ r. ⌜ (r .number ≡ code (verdict-file (now (rule .entry)) lo hi)) × (r .kind ≡ kind-of (verdict-file (now (rule .entry)) lo hi)) ⌝ }
+// Both, of one verdict, which is handed over as ssat_verdict does.
+fn judge(rule: &[u8], lo: u64, hi: u64, out: &mut [u64; 4]) -> Judged
+    ensures { λ r. ⌜ (r .number ≡ code (verdict-file (now (rule .entry)) lo hi)) × ((r .kind ≡ kind-of (verdict-file (now (rule .entry)) lo hi)) × (now (out .exit) ≡ filled verdict-values (verdict-file (now (rule .entry)) lo hi) (now (out .entry)))) ⌝ }
 {
     let result = verdict(rule, lo, hi);
     Judged {
-        number: code_of(result),
+        number: hand_verdict(out, result),
         kind: kind_of(result),
     }
 }
 
-// Takes the verdict's result into the tally that is lent.
+// The verdict, whose result is also taken into the tally that is lent.
 #[no_mangle]
-pub extern "C" fn ssat_tally(rule: &[u8], lo: u64, hi: u64, tally: &mut Tally) -> u32
+pub extern "C" fn ssat_tally(
+    rule: &[u8],
+    lo: u64,
+    hi: u64,
+    tally: &mut Tally,
+    out: &mut [u64; 4],
+) -> u32
     ensures returned { λ r. ⌜ r ≡ code (verdict-file (now (rule .entry)) lo hi) ⌝ }
+    ensures stored { λ _. ⌜ now (out .exit) ≡ filled verdict-values (verdict-file (now (rule .entry)) lo hi) (now (out .entry)) ⌝ }
     ensures taken_in { λ _. ⌜ now (tally .exit) ≡ step (now (tally .entry)) (kind-of (verdict-file (now (rule .entry)) lo hi)) ⌝ }
     ensures unchanged { λ _. ⌜ now (rule .exit) ≡ now (rule .entry) ⌝ }
 {
-    let judged = judge(rule, lo, hi);
+    let judged = judge(rule, lo, hi, out);
     absorb(tally, judged.kind);
     judged.number
 }

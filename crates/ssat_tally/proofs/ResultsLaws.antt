@@ -1,4 +1,4 @@
--- The program's results: of a line, and of the lines so far. Then the theorem on what it counts. Assumes nothing.
+-- The program's results: of a line, and of the lines so far. Then the theorem on what it prints. Assumes nothing.
 use Prim.Native.Nat.{ℕ, suc, _+_, _≤_, _<_}
 use native.Mathlib.Omega.{arith}
 use mathlib.Core.Path.{_≡_, refl, sym, ap, _∙_}
@@ -8,25 +8,25 @@ use lib.ListN.{length, drop}
 use Rattle.tally.specs.declared.Tally.{Tally}
 use Rattle.tally.specs.declared.Kind.{Kind}
 use Rattle.tally.specs.declared.Kind.the-variants.{Refused}
-use Rattle.tally.specs.Tally.{begun, step, after, tally-of}
-use Rattle.tally.proofs.TallyLaws.{after-snoc, tally-counts, tally-adds-up}
+use Rattle.tally.specs.Tally.{begun, step, tally-after, tally-of}
+use Rattle.tally.proofs.TallyLaws.{tally-after-snoc, tally-counts, kinds-add-up}
 use Rattle.rule_file.specs.Answer.{refused, answer}
 use Rattle.rule_file.specs.declared.Refusal.{Refusal}
 use Rattle.report.specs.Report.{refusal-line}
-use Rattle.tally_report.specs.TallyReport.{sheet-text}
+use Rattle.tally_report.specs.TallyReport.{tally-text}
 use Rattle.job_list.specs.declared.Parsing.{Parsing}
 use Rattle.job_list.specs.declared.Parsing.the-variants as parsing-variants
-use Rattle.job_list.specs.JobList.{Job, list-lines, job-of, list-file, list-line-at, name-within}
+use Rattle.job_list.specs.JobList.{Job, list-lines, list-file, list-line-at, name-within}
 use Rattle.job_list.proofs.SplitLaws.{lines-step, lines-over, line-within}
 use Rattle.job_list.proofs.ListLaws.{accepted-list}
-use Rattle.ssat_tally.specs.Results.{FileResult, LineResult, Results, Tallied, Printed}
+use Rattle.ssat_tally.specs.Results.{Content, InRoom, Contents, file-kind, job-kind, line-kind, line-kinds, printed}
 
 -- a line of another form, and one that gives a job
-pub other-result : (o : Option Job) → o ≡ none → LineResult o Refused
-other-result o e = rw e refl
+pub other-kind : (o : Option Job) (c : Content) → o ≡ none → Refused ≡ job-kind o c
+other-kind o c e = rw e refl
 
-pub job-result : (o : Option Job) (j : Job) (k : Kind) → o ≡ some j → FileResult (j .lower) (j .upper) k → LineResult o k
-job-result o j k e h = rw e h
+pub job-kind-is : (o : Option Job) (j : Job) (c : Content) (k : Kind) → o ≡ some j → k ≡ file-kind (j .lower) (j .upper) c → k ≡ job-kind o c
+job-kind-is o j c k e f = rw e f
 
 -- the name that is told ends within the line
 pub name-ends :
@@ -36,16 +36,39 @@ pub name-ends :
     → n ≤ length line
 name-ends line r n lower upper h e = rw e at h
 
+-- nothing read for any line
+nothing-for : List (List ℕ) → List Content
+nothing-for [] = []
+nothing-for (l ∷ ls) = none ∷ nothing-for ls
+
+nothing-read : (ls : List (List ℕ)) → Contents ls (nothing-for ls)
+unfolding nothing-for
+nothing-read [] = tt
+nothing-read (l ∷ ls) = (tt, nothing-read ls)
+
 -- one line more
-results-snoc :
-    (ls : List (List ℕ)) (ks : List Kind) (l : List ℕ) (k : Kind)
-    → Results ls ks
-    → LineResult (job-of l) k
-    → Results (ls ++ l ∷ []) (ks ++ k ∷ [])
-results-snoc [] [] l k h r = (r, tt)
-results-snoc [] (j ∷ js) l k h r = absurd h
-results-snoc (m ∷ ms) [] l k h r = absurd h
-results-snoc (m ∷ ms) (j ∷ js) l k h r = (h .0, results-snoc ms js l k (h .1) r)
+contents-snoc :
+    (ls : List (List ℕ)) (cs : List Content) (l : List ℕ) (c : Content)
+    → Contents ls cs
+    → InRoom c
+    → Contents (ls ++ l ∷ []) (cs ++ c ∷ [])
+contents-snoc [] [] l c h r = (r, tt)
+contents-snoc [] (d ∷ ds) l c h r = absurd h
+contents-snoc (m ∷ ms) [] l c h r = absurd h
+contents-snoc (m ∷ ms) (d ∷ ds) l c h r = (h .0, contents-snoc ms ds l c (h .1) r)
+
+kinds-snoc :
+    (ls : List (List ℕ)) (cs : List Content) (l : List ℕ) (c : Content)
+    → Contents ls cs
+    → line-kinds (ls ++ l ∷ []) (cs ++ c ∷ []) ≡ line-kinds ls cs ++ line-kind l c ∷ []
+kinds-snoc [] [] l c h = refl
+kinds-snoc [] (d ∷ ds) l c h = absurd h
+kinds-snoc (m ∷ ms) [] l c h = absurd h
+kinds-snoc (m ∷ ms) (d ∷ ds) l c h = ap (line-kind m d ∷_) (kinds-snoc ms ds l c (h .1))
+
+-- a tally of the results for lines, by what is read for them
+abbrev Tallied : List (List ℕ) → Tally → Type 0
+Tallied ls t = (cs : List Content) × (Contents ls cs × (t ≡ tally-after begun (line-kinds ls cs)))
 
 -- the lines before an index of the list are tallied
 pub record TalliedTo (b : List ℕ) (at : ℕ) (t : Tally) : Type 0 where
@@ -54,27 +77,37 @@ pub record TalliedTo (b : List ℕ) (at : ℕ) (t : Tally) : Type 0 where
   pub so-far : Tallied before t
 
 pub none-yet : (b : List ℕ) → TalliedTo b 0 begun
-unfolding after
-none-yet b = record { before = []; all = refl; so-far = record { kinds = []; results = tt; tally = refl } }
+unfolding tally-after
+none-yet b = record { before = []; all = refl; so-far = ([], (tt, refl)) }
 
 module _ (b : List ℕ) (at : ℕ) (l : List ℕ) (h : at < length b) (e : l ≡ list-line-at b at) where
   pub line-ends : at + length l ≤ length b
   line-ends = rw e (line-within b at h)
 
   pub one-more :
-      (t u : Tally) (k : Kind) → TalliedTo b at t → LineResult (job-of l) k → u ≡ step t k → TalliedTo b (at + (length l + 1)) u
-  one-more t u k s r f =
+      (t u : Tally) (k : Kind)
+      → TalliedTo b at t
+      → (c : Content) × (InRoom c × (k ≡ line-kind l c))
+      → u ≡ step t k
+      → TalliedTo b (at + (length l + 1)) u
+  one-more t u k s (c, (room, kind)) f =
       let next : at + length l + 1 ≡ at + (length l + 1) = omega arith in
       let line : list-lines (drop at b) ≡ l ∷ list-lines (drop (at + (length l + 1)) b) =
       lines-step b at h ∙ ap (λ m. m ∷ list-lines (drop (at + length m + 1) b)) (sym e) ∙ ap (λ i. l ∷ list-lines (drop i b)) next in
+      let (cs, (read, tally)) = s .so-far in
+      let ks = line-kinds (s .before) cs in
       record {
         before = s .before ++ l ∷ [];
         all = s .all ∙ ap (s .before ++_) line ∙ sym (append-assoc (s .before) (l ∷ []) (list-lines (drop (at + (length l + 1)) b)));
-        so-far = record {
-          kinds = s .so-far .kinds ++ k ∷ [];
-          results = results-snoc (s .before) (s .so-far .kinds) l k (s .so-far .results) r;
-          tally = f ∙ ap (λ v. step v k) (s .so-far .tally) ∙ sym (after-snoc begun (s .so-far .kinds) k);
-        };
+        so-far = (
+          cs ++ c ∷ [],
+          (
+            contents-snoc (s .before) cs l c read room,
+            f ∙ ap (λ v. step v k) tally ∙ ap (step (tally-after begun ks)) kind
+                ∙ sym (tally-after-snoc begun ks (line-kind l c))
+                ∙ ap (tally-after begun) (sym (kinds-snoc (s .before) cs l c read)),
+          ),
+        );
       }
 
 pub all-lines : (b : List ℕ) (at : ℕ) (t : Tally) → length b ≤ at → TalliedTo b at t → Tallied (list-lines b) t
@@ -82,32 +115,45 @@ all-lines b at t h s =
     let whole : list-lines b ≡ s .before = s .all ∙ ap (s .before ++_) (lines-over b at h) ∙ append-nil (s .before) in
     rw whole (s .so-far)
 
--- what is printed, by the list's answer
-pub printed-refusal : (b : List ℕ) (r : Refusal) (text : List ℕ) → list-file b ≡ refused r → text ≡ refusal-line r → Printed b text
-printed-refusal b r text e h = rw e h
+-- what is printed, by the list's answer; of a refused list nothing is read
+abbrev Prints : List ℕ → List ℕ → Type 0
+Prints b text = (cs : List Content) × (Contents (list-lines b) cs × (text ≡ printed b cs))
 
-pub printed-sheet :
-    (b : List ℕ) (n : ℕ) (t : Tally) (text : List ℕ) → list-file b ≡ answer n → Tallied (list-lines b) t → text ≡ sheet-text t → Printed b text
-printed-sheet b n t text e h f = rw e (t, (h, f))
+pub prints-refusal : (b : List ℕ) (r : Refusal) (text : List ℕ) → list-file b ≡ refused r → text ≡ refusal-line r → Prints b text
+prints-refusal b r text e h = (nothing-for (list-lines b), (nothing-read (list-lines b), rw e h))
+
+printed-tally :
+    (b : List ℕ) (cs : List Content) (n : ℕ) (t : Tally) (text : List ℕ)
+    → list-file b ≡ answer n
+    → t ≡ tally-after begun (line-kinds (list-lines b) cs)
+    → text ≡ tally-text t
+    → text ≡ printed b cs
+printed-tally b cs n t text e h f = rw e (f ∙ ap tally-text h)
+
+pub prints-tally : (b : List ℕ) (n : ℕ) (t : Tally) (text : List ℕ) → list-file b ≡ answer n → Tallied (list-lines b) t → text ≡ tally-text t → Prints b text
+prints-tally b n t text e (cs, (read, tally)) f = (cs, (read, printed-tally b cs n t text e tally f))
 
 -- one result for each line
-as-many : (ls : List (List ℕ)) (ks : List Kind) → Results ls ks → length ks ≡ length ls
+as-many : (ls : List (List ℕ)) (cs : List Content) → Contents ls cs → length (line-kinds ls cs) ≡ length ls
 as-many [] [] h = refl
-as-many [] (k ∷ ks) h = absurd h
+as-many [] (c ∷ cs) h = absurd h
 as-many (l ∷ ls) [] h = absurd h
-as-many (l ∷ ls) (k ∷ ks) h = ap suc (as-many ls ks (h .1))
+as-many (l ∷ ls) (c ∷ cs) h = ap suc (as-many ls cs (h .1))
 
 -- document 02's theorem on what is printed: each count is the number of results of its kind, one result for each line,
 -- and the last four add up to the first
 pub printed-counts :
-    (b : List ℕ) (n : ℕ) (t : Tally)
+    (b : List ℕ) (n : ℕ) (cs : List Content)
     → list-file b ≡ answer n
-    → (h : Tallied (list-lines b) t)
-    → (t ≡ tally-of (h .kinds)) × ((t .files ≡ length (list-lines b)) × (t .refused + t .above + t .below + t .within ≡ t .files))
+    → Contents (list-lines b) cs
+    → (t : Tally)
+    → t ≡ tally-of (line-kinds (list-lines b) cs)
+    → (printed b cs ≡ tally-text t) × ((t .files ≡ length (list-lines b)) × (t .refused + t .above + t .below + t .within ≡ t .files))
 unfolding tally-of
-printed-counts b n t e h =
+printed-counts b n cs e h t f =
     let list = accepted-list b n e in
-    let many : length (h .kinds) ≡ length (list-lines b) = as-many (list-lines b) (h .kinds) (h .results) in
-    let few : length (h .kinds) ≤ 4096 = omega (many, list .count, list .few, arith) in
-    let counts : t ≡ tally-of (h .kinds) = h .tally ∙ tally-counts (h .kinds) few in
-    (counts, (ap (λ u. u .files) counts ∙ many, rw (h .tally) (tally-adds-up (h .kinds) few)))
+    let ks = line-kinds (list-lines b) cs in
+    let many : length ks ≡ length (list-lines b) = as-many (list-lines b) cs h in
+    let few : length ks ≤ 4096 = omega (many, list .count, list .few, arith) in
+    let counts : tally-after begun ks ≡ t = tally-counts ks few ∙ sym f in
+    (sym (printed-tally b cs n t (tally-text t) e (sym counts) refl), (rw f many, rw f (kinds-add-up ks)))

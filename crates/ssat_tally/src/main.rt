@@ -13,19 +13,22 @@ use rule_file::limits::MAX_BYTES;
 use search::verdict;
 use tally::Kind;
 use tally::Tally;
+use tally::absorbed;
 use tally::begin;
 use tally::kind_of;
-use tally::step;
-use tally_report::sheet;
+use tally_report::tally_text;
+ghost use mathlib.Core.Path.{_≡_};
+ghost use mathlib.Core.List.{List};
 ghost use Prim.Native.Nat.{_≤_};
 ghost use lib.ListN.{length, take};
 ghost use Rattle.io.specs.Counts.{Counts};
-ghost use Rattle.job_list.specs.JobList.{max-list-bytes, list-lines, job-of};
-ghost use Rattle.ssat_tally.specs.Results.{FileResult, LineResult, Tallied, Printed};
+ghost use Rattle.tally.specs.Tally.{begun, tally-after};
+ghost use Rattle.job_list.specs.JobList.{max-list-bytes, list-lines};
+ghost use Rattle.ssat_tally.specs.Results.{Content, InRoom, Contents, file-kind, line-kind, line-kinds, printed};
 
 // The result of a file. It has room for one byte more than a rule file may have, so that a longer file is refused.
 fn file_result(name: &[u8], lower: u64, upper: u64) -> Kind
-    ensures { λ r. ⌜ FileResult lower upper r ⌝ }
+    ensures { λ r. ⌜ ((c : Content) × (InRoom c × (r ≡ file-kind lower upper c))) ⌝ }
 {
     let fd = os::open_read(name);
     if fd < 0 {
@@ -45,7 +48,7 @@ fn file_result(name: &[u8], lower: u64, upper: u64) -> Kind
 
 // The result of a line.
 fn line_result(line: &[u8]) -> Kind
-    ensures { λ r. ⌜ LineResult (job-of (now (line .entry))) r ⌝ }
+    ensures { λ r. ⌜ ((c : Content) × (InRoom c × (r ≡ line-kind (now (line .entry)) c))) ⌝ }
 {
     match parse(line) {
         Parsing::Other => Kind::Refused,
@@ -56,13 +59,13 @@ fn line_result(line: &[u8]) -> Kind
 // The tally of the results, line after line.
 fn tally_lines(list: &[u8]) -> Tally
     requires { ⌜ length (now list) ≤ max-list-bytes ⌝ }
-    ensures { λ r. ⌜ Tallied (list-lines (now (list .entry))) r ⌝ }
+    ensures { λ r. ⌜ ((cs : List Content) × (Contents (list-lines (now (list .entry))) cs × (r ≡ tally-after begun (line-kinds (list-lines (now (list .entry))) cs)))) ⌝ }
 {
     let mut tally = begin();
     let mut at = 0;
     while at < list.len() {
         let line = line_at(list, at);
-        tally = step(tally, line_result(line));
+        tally = absorbed(tally, line_result(line));
         at += line.len() + 1;
     }
     tally
@@ -71,11 +74,11 @@ fn tally_lines(list: &[u8]) -> Tally
 // Writes what is printed for a list at the start of `text`, and answers its length.
 fn answer(list: &[u8], text: &mut [u8; 138]) -> usize
     ensures { λ r. ⌜ Counts r (now (text .exit)) ⌝ }
-    ensures { λ r. ⌜ Printed (now (list .entry)) (take r (now (text .exit))) ⌝ }
+    ensures { λ r. ⌜ ((cs : List Content) × (Contents (list-lines (now (list .entry))) cs × (take r (now (text .exit)) ≡ printed (now (list .entry)) cs))) ⌝ }
 {
     match read_list(list) {
         Listing::Refused(refusal) => put_refusal(text, 0, refusal),
-        Listing::Lines(_) => sheet(tally_lines(list), text),
+        Listing::Lines(_) => tally_text(tally_lines(list), text),
     }
 }
 

@@ -1,2 +1,3 @@
--- Laws of the tally, and its theorem.
+-- Laws of the tally, and its theorem; and a call of `absorb`.
 pub mod TallyLaws
+pub mod AbsorbCall

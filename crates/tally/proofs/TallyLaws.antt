@@ -12,7 +12,7 @@ use Rattle.formula.proofs.SomeLaws.{or-false}
 use Rattle.tally.specs.declared.Tally.{Tally}
 use Rattle.tally.specs.declared.Kind.{Kind}
 use Rattle.tally.specs.declared.Kind.the-variants.{Refused, Above, Below, Within}
-use Rattle.tally.specs.Tally.{begun, full-count, is-full, one-if, counted, step, after, number-of-kind, tally-of}
+use Rattle.tally.specs.Tally.{begun, full-count, is-full, one-if, counted, step, tally-after, number-of-kind, tally-of}
 
 -- every count is under the limit
 pub record Room (t : Tally) : Type 0 where
@@ -50,15 +50,15 @@ pub full-step : (t : Tally) (k : Kind) → is-full t ≡ true → step t k ≡ t
 unfolding step
 full-step t k e = rw e
 
-pub open-step : (t : Tally) (k : Kind) → is-full t ≡ false → step t k ≡ counted t k
+pub counted-step : (t : Tally) (k : Kind) → is-full t ≡ false → step t k ≡ counted t k
 unfolding step
-open-step t k e = rw e
+counted-step t k e = rw e
 
 -- one result more at the end
-pub after-snoc : (t : Tally) (ks : List Kind) (k : Kind) → after t (ks ++ k ∷ []) ≡ step (after t ks) k
-unfolding after
-after-snoc t [] k = refl
-after-snoc t (j ∷ js) k = after-snoc (step t j) js k
+pub tally-after-snoc : (t : Tally) (ks : List Kind) (k : Kind) → tally-after t (ks ++ k ∷ []) ≡ step (tally-after t ks) k
+unfolding tally-after
+tally-after-snoc t [] k = refl
+tally-after-snoc t (j ∷ js) k = tally-after-snoc (step t j) js k
 
 -- a result is of one kind
 pub one-kind : (k : Kind) → one-if Refused k + one-if Above k + one-if Below k + one-if Within k ≡ 1
@@ -84,20 +84,20 @@ pub same-tally : {f f′ r r′ a a′ b b′ w w′ : ℕ} → f ≡ f′ → r
 same-tally e₁ e₂ e₃ e₄ e₅ = rw (e₁, e₂, e₃, e₄, e₅)
 
 -- from any counts that add up, as long as there is room for all results
-after-adds :
+tally-after-adds :
     (ks : List Kind) (f r a b w : ℕ)
     → r + a + b + w ≡ f
     → f + length ks ≤ full-count
-    → after (tally f r a b w) ks
+    → tally-after (tally f r a b w) ks
     ≡ tally
     (f + length ks)
     (r + number-of-kind Refused ks)
     (a + number-of-kind Above ks)
     (b + number-of-kind Below ks)
     (w + number-of-kind Within ks)
-unfolding after counted number-of-kind
-after-adds [] f r a b w e h = same-tally (omega arith) (omega arith) (omega arith) (omega arith) (omega arith)
-after-adds (k ∷ ks) f r a b w e h =
+unfolding tally-after counted number-of-kind
+tally-after-adds [] f r a b w e h = same-tally (omega arith) (omega arith) (omega arith) (omega arith) (omega arith)
+tally-after-adds (k ∷ ks) f r a b w e h =
     let has : Room (tally f r a b w) = record {
       files = omega (h, arith);
       refused = omega (e, h, arith);
@@ -107,29 +107,29 @@ after-adds (k ∷ ks) f r a b w e h =
     } in
     let more : r + one-if Refused k + (a + one-if Above k) + (b + one-if Below k) + (w + one-if Within k) ≡ f + 1 =
     omega (e, one-kind k, arith) in
-    ap (λ t. after t ks) (open-step _ k (not-full _ has))
-    ∙ after-adds ks _ _ _ _ _ more (omega (h, arith))
+    ap (λ t. tally-after t ks) (counted-step _ k (not-full _ has))
+    ∙ tally-after-adds ks _ _ _ _ _ more (omega (h, arith))
     ∙ same-tally (omega arith) (omega arith) (omega arith) (omega arith) (omega arith)
 
 -- document 02's theorem: in a tally that began with five noughts each count is the number of results of its kind
-pub tally-counts : (ks : List Kind) → length ks ≤ full-count → after begun ks ≡ tally-of ks
+pub tally-counts : (ks : List Kind) → length ks ≤ full-count → tally-after begun ks ≡ tally-of ks
 unfolding tally-of
 tally-counts ks h =
-    after-adds ks 0 0 0 0 0 refl (omega (h, arith))
+    tally-after-adds ks 0 0 0 0 0 refl (omega (h, arith))
     ∙ same-tally (omega arith) (omega arith) (omega arith) (omega arith) (omega arith)
 
 -- and the last four add up to the first
 pub tally-adds-up :
     (ks : List Kind)
     → length ks ≤ full-count
-    → after begun ks .refused + after begun ks .above + after begun ks .below + after begun ks .within ≡ after begun ks .files
+    → tally-after begun ks .refused + tally-after begun ks .above + tally-after begun ks .below + tally-after begun ks .within ≡ tally-after begun ks .files
 unfolding tally-of
 tally-adds-up ks h = rw (tally-counts ks h) (kinds-add-up ks)
 
 -- Computed examples: one result of each kind and one more, a count that reaches the limit, and one that stands there.
 pub example-tally :
-    (after begun (Within ∷ Refused ∷ Above ∷ Below ∷ Refused ∷ []) ≡ tally 5 2 1 1 1)
+    (tally-after begun (Within ∷ Refused ∷ Above ∷ Below ∷ Refused ∷ []) ≡ tally 5 2 1 1 1)
     × (step (tally 4095 0 4095 0 0) Above ≡ tally 4096 0 4096 0 0)
     × (step (tally 7 0 0 0 4096) Refused ≡ tally 7 0 0 0 4096)
-unfolding after step is-full some-of counted one-if
+unfolding tally-after step is-full some-of counted one-if
 example-tally = (refl, refl, refl)

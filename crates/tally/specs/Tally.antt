@@ -60,9 +60,9 @@ unfoldable pub step : Tally → Kind → Tally
 step t k = cond (is-full t) t (counted t k)
 
 -- a tally after a list of results, first to last
-unfoldable pub after : Tally → List Kind → Tally
-after t [] = t
-after t (k ∷ ks) = after (step t k) ks
+unfoldable pub tally-after : Tally → List Kind → Tally
+tally-after t [] = t
+tally-after t (k ∷ ks) = tally-after (step t k) ks
 
 -- the number of results of a kind
 unfoldable pub number-of-kind : Kind → List Kind → ℕ

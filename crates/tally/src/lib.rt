@@ -70,7 +70,7 @@ fn is_full(tally: Tally) -> bool
 }
 
 // The tally with one result more: the files count moves, and the count of the result's kind.
-pub fn step(tally: Tally, kind: Kind) -> Tally
+fn step(tally: Tally, kind: Kind) -> Tally
     ensures { λ r. ⌜ r ≡ step tally kind ⌝ }
 {
     if is_full(tally) {
@@ -92,4 +92,13 @@ pub fn absorb(tally: &mut Tally, kind: Kind)
     ensures { λ _. ⌜ now (tally .exit) ≡ step (now (tally .entry)) kind ⌝ }
 {
     *tally = step(*tally, kind);
+}
+
+// The tally with a result taken in: `absorb`, for callers that hold the record by value.
+pub fn absorbed(tally: Tally, kind: Kind) -> Tally
+    ensures { λ r. ⌜ r ≡ step tally kind ⌝ }
+{
+    let mut next = tally;
+    absorb(&mut next, kind);
+    next
 }

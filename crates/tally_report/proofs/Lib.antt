@@ -1,2 +1,2 @@
--- A sheet, computed.
+-- The text of a tally, computed.
 pub mod ExampleSheet

@@ -16,11 +16,11 @@ use Rattle.writing.proofs.ReadLaws.{lines-append}
 use Rattle.writer.specs.Writer.{exceeds}
 
 -- the lines pass no limit
-pub record Within (limit : ℕ) (ls : List Line) : Type 0 where
+pub record WithinLimit (limit : ℕ) (ls : List Line) : Type 0 where
   pub bytes : 4 * length (lines-words ls) + 12 ≤ limit
   pub lines : length ls ≤ max-lines
 
-pub within : (limit : ℕ) (ls : List Line) → Decides (exceeds limit ls) (Within limit ls)
+pub within : (limit : ℕ) (ls : List Line) → Decides (exceeds limit ls) (WithinLimit limit ls)
 unfolding exceeds
 within limit ls = (
   λ e. let (f, g) = or-false _ _ e in record { bytes = ltb-false _ _ f; lines = ltb-false _ _ g },

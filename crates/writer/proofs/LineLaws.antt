@@ -36,17 +36,17 @@ abbrev pub room-for : ℕ → Progress → ℕ → Bool
 room-for limit at words = leb (at .bytes + 4 * words + 12) limit && ltb (at .lines) max-lines
 
 -- what it says where it is true
-pub record Room (limit : ℕ) (at : Progress) (words : ℕ) : Type 0 where
+pub record LineRoom (limit : ℕ) (at : Progress) (words : ℕ) : Type 0 where
   pub bytes : at .bytes + 4 * words + 12 ≤ limit
   pub lines : at .lines < max-lines
 
-room-decides : (limit : ℕ) (at : Progress) (words : ℕ) → Decides (not (room-for limit at words)) (Room limit at words)
+room-decides : (limit : ℕ) (at : Progress) (words : ℕ) → Decides (not (room-for limit at words)) (LineRoom limit at words)
 room-decides limit at words = (
   λ e. let (b, l) = and-iff _ _ .0 (not-false _ e) in record { bytes = leb-true _ _ b; lines = ltb-true _ _ l },
   λ r. rw (le-leb _ limit (r .bytes), lt-ltb _ max-lines (r .lines)),
 )
 
-pub room-is : {limit : ℕ} {at : Progress} {words : ℕ} (r : Bool) → r ≡ room-for limit at words → not r ≡ false → Room limit at words
+pub room-is : {limit : ℕ} {at : Progress} {words : ℕ} (r : Bool) → r ≡ room-for limit at words → not r ≡ false → LineRoom limit at words
 room-is r e f = room-decides _ _ _ .0 (ap not (sym e) ∙ f)
 
 module _ {limit : ℕ} {out : List ℕ} {at : Progress} {ls : List Line} (holds : Holds limit out at ls) where
@@ -66,7 +66,7 @@ module _ {limit : ℕ} {out : List ℕ} {at : Progress} {ls : List Line} (holds 
         (λ w. record { bytes = omega (arith, w .bytes, holds .ends, length-lines); lines = omega (arith, w .lines, holds .counted, count) })
         (λ r. record { bytes = omega (arith, r .bytes, holds .ends, length-lines); lines = omega (arith, r .lines, holds .counted, count) })
 
-    module _ {out₁ : List ℕ} {end : ℕ} (put : Put out (at .bytes) (bytes-of (line-words l)) out₁ end) (room : Room limit at words) where
+    module _ {out₁ : List ℕ} {end : ℕ} (put : Put out (at .bytes) (bytes-of (line-words l)) out₁ end) (room : LineRoom limit at words) where
       -- what holds once it is put
       holds-more : Holds limit out₁ (record { bytes = end; lines = at .lines + 1 }) (ls ++ (l ∷ []))
       holds-more =

@@ -21,13 +21,13 @@ use Rattle.derivation.specs.Check.{line-fails}
 use Rattle.derivation.specs.WellFormed.{WellFormed}
 use Rattle.derivation.specs.Derives.{Derives}
 use Rattle.writing.specs.File.{derivation-bytes}
-use Rattle.writing.proofs.Leaving.{Clause, Proved}
+use Rattle.writing.proofs.Leaving.{KnownClause, Proved}
 use Rattle.word_writer.proofs.WordsBack.{FitWords, fit-nil, fit-cons}
 use Rattle.writing.proofs.FileLaws.{added, LineFits, ReadsAs, file-back}
 
 module _ (b : List ℕ) (a : Accepted b) where
   -- a clause: its literals are under 2n, and its value is at most the whole
-  module _ (c : Annotated) (k : Clause (clauses b) (prefix b) c) where
+  module _ (c : Annotated) (k : KnownClause (clauses b) (prefix b) c) where
     in-range : out-of-range (variable-count b) (c .literals) ≡ false
     in-range = rw (prefix-length b) at (k .in-range)
 

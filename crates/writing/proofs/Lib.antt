@@ -1,7 +1,7 @@
 -- Laws of a path's opposites, of lines, of the walk, of the file and of the writer's answer; then the theorems over
 -- them.
 pub mod Leaving
-pub mod OppositesLaws
+pub mod PathOppositesLaws
 pub mod LinesLaws
 pub mod JoinLaws
 pub mod WalkLaws

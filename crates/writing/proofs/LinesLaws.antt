@@ -10,7 +10,7 @@ use lib.ListN.{length, length-append, List·getD-append}
 use lib.Seq.{getD-append-seam}
 use Rattle.formula.specs.Quantifier.{Quantifier}
 use Rattle.resolution.specs.Resolution.{Annotated, Line, derived, line-at, Names, clause, line, Follows, by-R2, by-R3}
-use Rattle.writing.proofs.Leaving.{Clause, Proved}
+use Rattle.writing.proofs.Leaving.{KnownClause, Proved}
 
 module _ (lines more : List Line) where
   line-stays : (i : ℕ) → i < length lines → line-at lines i ≡ line-at (lines ++ more) i
@@ -51,12 +51,12 @@ module _ (lines : List Line) (l : Line) where
       go (no n) = let e : k ≡ length lines = omega (arith, length-append lines (l ∷ [])) in rw (e, last-line) last
 
   -- where it follows from the others, all follow
-  pub proved-append : {φ : List (List ℕ)} {qs : List Quantifier} → Proved φ qs lines → Follows φ qs lines (length lines) l → Clause φ qs (derived l)
+  pub proved-append : {φ : List (List ℕ)} {qs : List Quantifier} → Proved φ qs lines → Follows φ qs lines (length lines) l → KnownClause φ qs (derived l)
       → Proved φ qs longer
   proved-append {φ} {qs} proved follows is = record {
     follow =
         line-cases (λ k x. Follows φ qs longer k x)
         (λ k h. follows-stays lines (l ∷ []) (omega arith) (proved .follow k h))
         (follows-stays lines (l ∷ []) (omega arith) follows);
-    clauses = line-cases (λ k x. Clause φ qs (derived x)) (proved .clauses) is;
+    clauses = line-cases (λ k x. KnownClause φ qs (derived x)) (proved .clauses) is;
   }

@@ -21,6 +21,8 @@ pub struct Answer {
     pub numbers: Vec<u64>,
     /// What the writer or the repair puts at the start of its buffer.
     pub written: Vec<u8>,
+    /// What the tally holds that is lent to take the verdict in.
+    pub tally: Option<Tally>,
 }
 
 impl Answer {
@@ -137,11 +139,11 @@ impl<'a> Solver<'a> {
         })
     }
 
-    /// Takes the verdict into a tally: the verdict's number alone, and the tally's five counts afterwards.
+    /// The verdict, and the tally that takes it in.
     pub fn tally(&self, lo: u64, hi: u64, mut tally: Tally) -> Answer {
         let verdict = self.verdict(lo, hi);
         tally.take(Kind::of(&verdict));
-        Answer { code: verdict.code, numbers: tally.0.to_vec(), ..Answer::default() }
+        Answer { tally: Some(tally), ..verdict }
     }
 
     pub fn cut(&self, level: u64) -> Answer {

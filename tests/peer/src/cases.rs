@@ -76,18 +76,25 @@ impl Case {
 
     /// The line that `run_samples` must write for it.
     pub fn line(&self) -> String {
-        let Answer { code, numbers, .. } = &self.expected;
-        let all = numbers.iter().fold(code.to_string(), |line, number| format!("{line} {number}"));
-        match (&self.operation, &numbers[..]) {
-            (Operation::Verdict(..), [1, _]) => format!("{code} above\n"),
-            (Operation::Verdict(..), [2, _]) => format!("{code} below\n"),
-            (Operation::Verdict(..), [_, figure]) => format!("{code} within {figure}\n"),
-            (Operation::Clauses, _) if *code == 0 => all + " none\n",
-            (Operation::Derive(_) | Operation::Repair(_), _) => all + " right\n",
-            (Operation::Jobs, [count, jobs @ ..]) => format!("{code} {count}{}\n", words_of(jobs)),
-            _ => all + "\n",
-        }
+        let Answer { code, numbers, tally, .. } = &self.expected;
+        let all = after_blanks(code.to_string(), numbers);
+        let answer = match (&self.operation, &numbers[..]) {
+            (Operation::Verdict(..) | Operation::Tally(..), [1, _]) => format!("{code} above"),
+            (Operation::Verdict(..) | Operation::Tally(..), [2, _]) => format!("{code} below"),
+            (Operation::Verdict(..) | Operation::Tally(..), [_, figure]) => format!("{code} within {figure}"),
+            (Operation::Clauses, _) if *code == 0 => all + " none",
+            (Operation::Derive(_) | Operation::Repair(_), _) => all + " right",
+            (Operation::Jobs, [count, jobs @ ..]) => format!("{code} {count}{}", words_of(jobs)),
+            _ => all,
+        };
+        let counts = tally.as_ref().map_or(&[][..], |tally| &tally.0);
+        after_blanks(answer, counts) + "\n"
     }
+}
+
+/// The line with these numbers at its end, each after a blank.
+fn after_blanks(line: String, numbers: &[u64]) -> String {
+    numbers.iter().fold(line, |line, number| format!("{line} {number}"))
 }
 
 /// The words for the lines of a job list, each after a blank.

@@ -13,7 +13,7 @@ mod raw {
         pub fn ssat_check(rule: *const u8, len: usize, derivation: *const u8, dlen: usize, out: *mut u64) -> u32;
         pub fn ssat_derive(rule: *const u8, len: usize, buffer: *mut u8, capacity: usize, out: *mut u64) -> u32;
         pub fn ssat_repair(rule: *const u8, len: usize, buffer: *mut u8, capacity: usize, out: *mut u64) -> u32;
-        pub fn ssat_tally(rule: *const u8, len: usize, lo: u64, hi: u64, tally: *mut u64) -> u32;
+        pub fn ssat_tally(rule: *const u8, len: usize, lo: u64, hi: u64, tally: *mut u64, out: *mut u64) -> u32;
         pub fn plain_figure(rule: *const u8, len: usize, out: *mut u64) -> u32;
         pub fn plain_verdict(rule: *const u8, len: usize, lo: u64, hi: u64, out: *mut u64) -> u32;
         pub fn plain_cut(rule: *const u8, len: usize, level: u64, out: *mut u64) -> u32;
@@ -139,22 +139,14 @@ impl Library {
         self.derivation.pages.read_only(on);
     }
 
-    /// Calls an operation that puts its answer into `out`.
+    /// Calls an operation that puts its answer into `out`, at the end of its pages, and looks at all bytes afterwards
+    /// that are lent for reading.
     fn call(&mut self, call: impl FnOnce(*const u8, usize, *const u8, usize, *mut u64) -> u32) -> Returned {
-        self.call_with(BEFORE, call)
-    }
-
-    /// Calls with the numbers `before` in `out`, at the end of its pages, and looks at all lent bytes afterwards.
-    fn call_with<const N: usize>(
-        &mut self,
-        before: [u64; N],
-        call: impl FnOnce(*const u8, usize, *const u8, usize, *mut u64) -> u32,
-    ) -> (u32, [u64; N]) {
         let all = self.out.all();
-        let start = all.len() - 8 * N;
+        let start = all.len() - size_of_val(&BEFORE);
         all.fill(FILL);
-        let out: *mut [u64; N] = all[start..].as_mut_ptr().cast();
-        unsafe { out.write(before) };
+        let out: *mut [u64; 4] = all[start..].as_mut_ptr().cast();
+        unsafe { out.write(BEFORE) };
         let (rule, len) = (self.rule.start(), self.rule.bytes.len());
         let (derivation, dlen) = (self.derivation.start(), self.derivation.bytes.len());
         let code = call(rule, len, derivation, dlen, out.cast());
@@ -183,8 +175,12 @@ impl Library {
     }
 
     /// Lends a tally of these counts: also what they are after the call.
-    pub fn tally(&mut self, lo: u64, hi: u64, counts: [u64; 5]) -> (u32, [u64; 5]) {
-        self.call_with(counts, |rule, len, _, _, tally| unsafe { raw::ssat_tally(rule, len, lo, hi, tally) })
+    pub fn tally(&mut self, lo: u64, hi: u64, counts: [u64; 5], place: Place) -> (Returned, [u64; 5]) {
+        self.buffer.lend(&counts.map(u64::to_ne_bytes).concat(), place);
+        let tally = self.buffer.start().cast();
+        let returned = self.call(|rule, len, _, _, out| unsafe { raw::ssat_tally(rule, len, lo, hi, tally, out) });
+        self.buffer.beside_unchanged("tally");
+        (returned, unsafe { tally.cast::<[u64; 5]>().read() })
     }
 
     pub fn cut(&mut self, level: u64) -> Returned {

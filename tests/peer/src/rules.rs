@@ -1,9 +1,9 @@
-//! The rule-file readers, the bench's, the rack controller's small one and the repair's: refusals 1 to 7, 23, 8 and 9,
-//! in this order; and rule files before they are written.
+//! The rule-file readers, the bench's, the rack controller's small one and the repair's, with their refusals; and rule
+//! files before they are written.
 
 use crate::{to_bytes, to_words, Literals};
 
-/// A refusal's number, with the clause for 5 to 7 and 23, the variable for 8 and the line for 15 to 20.
+/// A refusal's number, with the clause, the variable or the line that it names.
 pub type Fault = (u32, Option<usize>);
 
 /// The readers' refusals, in the order of their checks.

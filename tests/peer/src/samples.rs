@@ -27,7 +27,7 @@
 //! | 6 clauses | `0`, then for each clause in order its length and its literals as they stand, then `none` |
 //! | 7 derive | `0 length right`; `right` stands after a refusal too |
 //! | 8 jobs | `0` and the count of lines, then for each the length of its name and its limits, or `other` |
-//! | 9 tally | the number of the verdict's refusal or `0`, then the five counts with the result taken in |
+//! | 9 tally | the verdict's line, a refusal's too, then the five counts with the result taken in |
 //! | 11 repair | `0 length clauses literals reordered right`; `right` stands after a refusal too |
 //!
 //! So 6 gives `0 2 0 2 1 3 2 2 4 none` for clauses {0, 2}, {3}, {2, 4}, and `0 none` where there are no clauses. For 7
@@ -197,7 +197,7 @@ fn sample_file(list: &mut List) {
     list.figure("p6", &RuleDraft::new(both, &[[0, 0], [1, 1]]), 1, 2);
 }
 
-/// Each of 1 to 9 on both sides of its border.
+/// Each of the reader's refusals but 23 on both sides of its border.
 fn readings(list: &mut List) {
     // 1: length.
     let empty = [0, 0, 0, 4];
@@ -301,7 +301,7 @@ fn readings(list: &mut List) {
     list.refused("whole-largest", &all(32, [65_535, 65_535]).words(), 9, &[]);
 }
 
-/// What 5 to 8 and 23 name: the first clause or variable at fault, the last there can be, and the first of several.
+/// What the reader's refusals name: the first clause or variable at fault, the last there can be, the first of several.
 fn places(list: &mut List) {
     let rule = |clauses: &[&[u32]]| RuleDraft::new(clauses, &[[0, 0]; 3]);
     // A word too many between the clauses and the prefix.

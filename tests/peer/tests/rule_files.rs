@@ -282,7 +282,7 @@ fn read_only_pages() {
         library.read_small();
         library.figure();
         library.verdict(0, 1);
-        library.tally(0, 1, [0; 5]);
+        library.tally(0, 1, [0; 5], Place::AtEnd);
         library.cut(2);
         library.plain_figure();
         library.plain_verdict(0, 1);

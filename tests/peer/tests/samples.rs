@@ -56,6 +56,7 @@ fn every_number() {
 fn library() {
     use peer::cases::Operation;
     use peer::ffi::{buffer_before, Library, Place, Returned, BEFORE};
+    use peer::list::Tally;
     let mut library = Library::new();
     for case in samples::cases() {
         let written = |capacity: usize, (got, buffer): (Returned, Vec<u8>)| {
@@ -77,9 +78,9 @@ fn library() {
                 Operation::Derive(capacity) => written(*capacity, library.derive(*capacity, place)),
                 Operation::Repair(capacity) => written(*capacity, library.repair(*capacity, place)),
                 Operation::Tally(lo, hi, counts) => {
-                    let (code, counts) = library.tally(*lo, *hi, counts.map(u64::from));
-                    assert_eq!((code, &counts[..]), (case.expected.code, &case.expected.numbers[..]), "{}", case.name);
-                    continue;
+                    let (got, counts) = library.tally(*lo, *hi, counts.map(u64::from), place);
+                    assert_eq!(Some(Tally(counts)), case.expected.tally, "{}", case.name);
+                    got
                 }
                 Operation::Clauses | Operation::Jobs => continue,
             };

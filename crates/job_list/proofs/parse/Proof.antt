@@ -65,8 +65,8 @@ returns-5 c =
 returns-6 : tie.Need-returns-6
 returns-6 c =
     let last = c .before .before .before in
-    let told = last .before .before in
-    let read = told .before .before .before in
+    let matched = last .before .before in
+    let read = matched .before .before .before in
     let named = read .before .before in
     let two = named .before .before .before in
     let one = two .before .before in
@@ -74,7 +74,7 @@ returns-6 c =
     let again = two .before .find2 .ensures in (
       complete _ _ (found .0) (under (found .1) (one .if1 .left)) _ (again .0) (under (again .1) (two .if2 .left)) _ _
           (test-passed (named .before .is-name .ensures .0) (named .if3 .left))
-          (sym (read .limit .ensures .0) ∙ ap limiting (told .before .lower .given .1))
+          (sym (read .limit .ensures .0) ∙ ap limiting (matched .before .lower .given .1))
           (sym (last .limit2 .ensures .0) ∙ ap limiting (c .before .upper .given .1)),
       (found .1, refl),
     )

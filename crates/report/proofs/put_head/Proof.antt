@@ -10,11 +10,12 @@ use Rattle.report.proofs.put_head.Tie as tie
 returns : tie.Need-returns
 unfolding head-text ascii
 returns c =
-    let vars = c .before .before .before .before .before .before .before .before .before .before .before .before .before .before .before .before .before .before .before .before .put-line .ensures .0 in
-    let clauses = c .before .before .before .before .before .before .before .before .before .before .before .before .before .before .put-line2 .ensures .0 in
-    let whole = c .before .before .before .before .before .before .before .before .put-line3 .ensures .0 in
-    let value = c .before .before .put-line4 .ensures .0 in
-    (put-append zero-le (put-append zero-le (put-append zero-le vars clauses) whole) value, search needs)
+    let value = c .before .before in
+    let whole = value .before .before .before .before .before .before in
+    let clauses = whole .before .before .before .before .before .before in
+    let vars = clauses .before .before .before .before .before .before in
+    let first-two = put-append zero-le (vars .put-line .ensures .0) (clauses .put-line2 .ensures .0) in
+    (put-append zero-le (put-append zero-le first-two (whole .put-line3 .ensures .0)) (value .put-line4 .ensures .0), search needs)
 
 pub put-head-spec : {M : Type 1} → statement M
 put-head-spec =

@@ -3,7 +3,7 @@ use mathlib.Core.Path.{sym, ap, _∙_}
 use Rattle.buffer.proofs.TextLaws.{put-at-start}
 use Rattle.job_list.specs.JobList.{listing}
 use Rattle.job_list.proofs.ListLaws.{accepted-list}
-use Rattle.ssat_tally.proofs.ResultsLaws.{printed-refusal, printed-sheet}
+use Rattle.ssat_tally.proofs.ResultsLaws.{prints-refusal, prints-tally}
 use borrow.Author.Needs.{needs}
 use Rattle.ssat_tally.proofs.answer.Statement.{statement}
 use Rattle.ssat_tally.proofs.answer.Tie as tie
@@ -14,18 +14,18 @@ tally-lines-requires c κs =
 
 returns : tie.Need-returns
 returns c =
-    let told = c .before .before .before in
+    let matched = c .before .before .before in
     let (within, _, text, _) = put-at-start (c .put-refusal .ensures) in
-    (within, printed-refusal _ _ _ (sym (told .before .before .read-list .ensures .0) ∙ ap listing (told .refusal .given .1)) text)
+    let refused = sym (matched .before .before .read-list .ensures .0) ∙ ap listing (matched .refusal .given .1) in
+    (within, prints-refusal _ _ _ refused text)
 
 returns-2 : tie.Need-returns-2
 returns-2 c =
     let counted = c .before .before in
-    let told = counted .before in
-    let (within, (_, (text, _))) = c .sheet .ensures in (
-      within,
-      printed-sheet _ _ _ _ (sym (told .before .before .read-list .ensures .0) ∙ ap listing (told .enum-told .given .1)) (counted .tally-lines .ensures) text,
-    )
+    let matched = counted .before in
+    let (within, (_, (text, _))) = c .tally-text .ensures in
+    let accepted = sym (matched .before .before .read-list .ensures .0) ∙ ap listing (matched .enum-told .given .1) in
+    (within, prints-tally _ _ _ _ accepted (counted .tally-lines .ensures) text)
 
 pub answer-spec : {M : Type 1} → statement M
 answer-spec =

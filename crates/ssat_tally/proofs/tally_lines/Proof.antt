@@ -49,7 +49,7 @@ loop-again : tie.Need-loop-again Inv-loop μ-loop
 loop-again c =
     let line = c .before .before in
     let (so-far, short) = line .before .before .loop .inv in (
-      one-more _ _ _ (line .before .loop-test .taken) (line .line-at .ensures .0) _ _ _ so-far (c .before .line-result .ensures) (c .step .ensures),
+      one-more _ _ _ (line .before .loop-test .taken) (line .line-at .ensures .0) _ _ _ so-far (c .before .line-result .ensures) (c .absorbed .ensures),
       short,
     )
 

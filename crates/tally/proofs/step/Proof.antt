@@ -10,7 +10,7 @@ use mir.Val.{Fits}
 use Rattle.tally.specs.declared.Tally.{Tally}
 use Rattle.tally.specs.declared.Kind.{Kind}
 use Rattle.tally.specs.Tally.{is-full, one-if, counted, step}
-use Rattle.tally.proofs.TallyLaws.{room, same-tally, full-step, open-step}
+use Rattle.tally.proofs.TallyLaws.{room, same-tally, full-step, counted-step}
 use borrow.Author.Needs.{needs}
 use Rattle.tally.proofs.step.Statement.{statement}
 use Rattle.tally.proofs.step.Tie as tie
@@ -22,7 +22,7 @@ fits h = record { fits = omega (h, arith) }
 -- the tally with its counts moved, by the kind
 module _ (t : Tally) {k : Kind} (e : is-full t ≡ false) where
   moved : {j : Kind} → k ≡ j → {u : Tally} → u ≡ counted t j → u ≡ step t k
-  moved f g = g ∙ ap (counted t) (sym f) ∙ sym (open-step t k e)
+  moved f g = g ∙ ap (counted t) (sym f) ∙ sym (counted-step t k e)
 
 same : {x : ℕ} → x ≡ x + 0
 same {x = x} = sym (add-zero x)

@@ -1,8 +1,8 @@
 //! Samples for document 02's job lists and tallies, and the run of the program `ssat_tally`.
 
 use super::{sample, List};
-use crate::answer::answer;
-use crate::cases::Operation;
+use crate::answer::{answer, Answer};
+use crate::cases::{Case, Operation};
 use crate::generate::RuleDraft;
 use crate::list::{self, Job, Kind, Tally};
 use crate::to_bytes;
@@ -26,9 +26,11 @@ impl List {
         self.add(name, list, Operation::Jobs, 24, &[]);
     }
 
-    fn tally(&mut self, name: String, lo: u64, hi: u64, counts: [u32; 5], code: u32, after: [u32; 5]) {
-        let operation = Operation::Tally(lo, hi, counts);
-        self.add(name, &sample().0.bytes(), operation, code, &after.map(u64::from));
+    /// A verdict of the sample that is taken into a tally, whose counts were and are then these.
+    fn tally(&mut self, name: String, (lo, hi): (u64, u64), verdict: &Answer, before: [u32; 5], after: [u32; 5]) {
+        let expected = Answer { tally: Some(Tally(after.map(u64::from))), ..verdict.clone() };
+        let operation = Operation::Tally(lo, hi, before);
+        self.0.push(Case { name, rule: sample().0.bytes(), operation, expected });
     }
 }
 
@@ -171,25 +173,34 @@ fn lines() -> Vec<(Vec<u8>, Read)> {
 
 /// Tallies on both sides of each border.
 pub(super) fn tallies(list: &mut List) {
-    // Every verdict above, taken into a new tally.
+    // Every verdict above, and every file that the reader refuses with a place, taken into a new tally.
     for case in list.0.clone() {
-        let Operation::Verdict(lo, hi) = case.operation else {
-            continue;
+        let (lo, hi) = match case.operation {
+            Operation::Verdict(lo, hi) => (lo, hi),
+            Operation::Read if case.expected.code != 0 && !case.expected.numbers.is_empty() => (0, 0),
+            _ => continue,
         };
         let mut after = [1, 0, 0, 0, 0];
         after[Kind::of(&case.expected) as usize] = 1;
         let operation = Operation::Tally(lo, hi, [0; 5]);
-        list.add(format!("tally-{}", case.name), &case.rule, operation, case.expected.code, &after);
+        let expected = Answer { tally: Some(Tally(after)), ..case.expected };
+        list.0.push(Case { name: format!("tally-{}", case.name), rule: case.rule, operation, expected });
     }
 
     // A result of each kind: refused by 10 and by 11, above, below, and within with limits equal to the figure.
-    let kinds = [("10", 13, 12, 10, 1), ("11", 0, 51, 11, 1), ("above", 0, 11, 0, 2), ("below", 13, 50, 0, 3)];
-    for (name, lo, hi, code, at) in kinds.into_iter().chain([("within", 12, 12, 0, 4)]) {
+    let kinds = [
+        ("10", (13, 12), Answer::refused((10, None)), 1),
+        ("11", (0, 51), Answer::refused((11, None)), 1),
+        ("above", (0, 11), Answer::numbers(&[1, 0]), 2),
+        ("below", (13, 50), Answer::numbers(&[2, 0]), 3),
+        ("within", (12, 12), Answer::numbers(&[0, 12]), 4),
+    ];
+    for (name, limits, verdict, at) in kinds {
         let mut tally = |name: String, before: [u32; 5], taken: u32| {
             let mut after = before;
             after[0] += taken;
             after[at] += taken;
-            list.tally(name, lo, hi, before, code, after);
+            list.tally(name, limits, &verdict, before, after);
         };
         tally(format!("tally-{name}-again"), [10, 1, 2, 3, 4], 1);
         // Counts that no tally comes to by itself.

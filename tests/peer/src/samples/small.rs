@@ -114,7 +114,7 @@ fn numbers_of_clauses(list: &mut List) {
     list.readings("m-1025", &empty_clauses(0, 1_025).bytes(), (3, &[]), (1, &[]));
 }
 
-/// 2 to 9 and 23 of the bench's reader within the small limits, with more bytes and with more variables.
+/// The reader's refusals after 1 within the small limits, with more bytes and with more variables.
 fn refusals(list: &mut List) {
     for (name, file, code, place) in faults(&long_clauses(15), 58, 15) {
         list.alike(&format!("{name}-within"), &file, code, &place);

@@ -200,11 +200,11 @@ impl Pair {
 
             let tally = generate::tally(random);
             let expected = solvers[0].tally(lo, hi, tally);
-            let (code, counts) = self.library.tally(lo, hi, tally.0);
-            let same = code == expected.code && counts[..] == expected.numbers;
+            let (got, counts) = self.library.tally(lo, hi, tally.0, random.pick(&[Place::AtEnd, Place::AtStart]));
+            let same = got == (expected.code, expected.out(BEFORE)) && Some(Tally(counts)) == expected.tally;
             assert!(
                 same,
-                "tally {tally:?}: library {code} {counts:?}, peer {expected:?}\nlimits {lo} {hi}, {}",
+                "tally {tally:?}: library {got:?} {counts:?}, peer {expected:?}\nlimits {lo} {hi}, {}",
                 input()
             );
             self.tallied.take(Kind::of(&verdict), tally);

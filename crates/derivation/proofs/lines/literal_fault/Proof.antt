@@ -6,9 +6,8 @@ use native.Mathlib.Nat.{sub-zero}
 use native.Mathlib.Omega.{arith}
 use Rattle.rule_file.specs.Walk.{first}
 use Rattle.rule_file.proofs.WalkLaws.{start-zero, start-suc, elements-next, elements-passed, from, from-zero, first-here, first-later, first-over}
-use Rattle.derivation.specs.DerivationFile.{trailer-start, line-of, after-line, lines-from}
+use Rattle.derivation.specs.DerivationFile.{trailer-start, line-of, after-line, lines-from, line-start}
 use Rattle.derivation.specs.Check.{line-fails}
-use Rattle.derivation.specs.Parent.{line-start}
 use Rattle.derivation.proofs.LineLaws.{line-within}
 use Rattle.derivation.proofs.lines.literal_fault.Statement.{statement}
 use Rattle.derivation.proofs.lines.literal_fault.Tie as tie

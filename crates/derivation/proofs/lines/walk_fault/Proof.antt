@@ -9,10 +9,9 @@ use native.Mathlib.Omega.{arith}
 use lib.ListN.{length, length-set}
 use borrow.Author.Count.{below-none}
 use borrow.Author.Tests.{not-true, not-false}
-use Rattle.rule_file.proofs.WalkLaws.{start-zero, start-suc, from, from-zero, walk-fault, walk-on, walk-ended, walk-missed}
-use Rattle.derivation.specs.DerivationFile.{after-line}
+use Rattle.rule_file.proofs.WalkLaws.{start-zero, start-suc, from, from-zero, walk-fault, walk-on, walk-ended, walk-not-ended}
+use Rattle.derivation.specs.DerivationFile.{after-line, line-start}
 use Rattle.derivation.specs.Check.{walk-lines, line-fits}
-use Rattle.derivation.specs.Parent.{line-start}
 use Rattle.derivation.specs.Starts.{max-references, LineStarts}
 use Rattle.derivation.proofs.LineLaws.{line-ends, value-before}
 use Rattle.derivation.proofs.StartsLaws.{line-kept}
@@ -73,7 +72,7 @@ returns-2 : tie.Need-returns-2 Inv-loop μ-loop
 returns-2 c =
     let inv = c .before .before .loop .inv in
     let e : c .before .before .before .before .args .count ≡ c .before .before .loop .line = omega arith in
-    (ap some e ∙ sym (walk-missed (after-line _) (line-fits _ _ _) _ _ _ _ (c .before .loop-test .left) (c .if2 .taken)) ∙ inv .2, (λ e. absurd (Option·some-ne-none _ e), inv .5))
+    (ap some e ∙ sym (walk-not-ended (after-line _) (line-fits _ _ _) _ _ _ _ (c .before .loop-test .left) (c .if2 .taken)) ∙ inv .2, (λ e. absurd (Option·some-ne-none _ e), inv .5))
 
 returns-3 : tie.Need-returns-3 Inv-loop μ-loop
 returns-3 c =

@@ -73,7 +73,7 @@ returns c =
     let inv = c .before .loop .inv in
     let m = clauses-are s in
     let k = s .pre .1 .1 .0 in
-    (λ r named. inv .1 .each r (omega (arith, named-end _ _ r named, m, k, c .before .before .end-of-references .ensures)) named, refl)
+    (λ r named. inv .1 .each r (omega (arith, named-end _ _ r named, m, k, c .before .before .end-of-references .ensures)) named, (inv .2, refl))
 
 pub keep-masks-spec : {M : Type 1} → statement M
 keep-masks-spec =

@@ -4,8 +4,7 @@ use mathlib.Core.Path.{_≡_, refl, _∙_}
 use Prim.Native.Nat.{_/_, _<_}
 use Rattle.rule_file.specs.RuleFile.{clause-count, clause-start}
 use Rattle.rule_file.proofs.ClauseLaws.{clause-within}
-use Rattle.derivation.specs.DerivationFile.{line-count}
-use Rattle.derivation.specs.Parent.{line-start}
+use Rattle.derivation.specs.DerivationFile.{line-count, line-start}
 use Rattle.derivation.proofs.LineLaws.{well-walked, line-value-within}
 use Rattle.derivation.proofs.ParentLaws.{named-few, named-clause, clause-kept-at, clause-part, named-line, line-kept-at, line-part}
 use Rattle.derivation.proofs.parent.parent.Statement.{statement}

@@ -2,8 +2,7 @@
 use mathlib.Core.Path.{_≡_, _∙_}
 use Prim.Native.Nat.{_/_, _<_}
 use native.Mathlib.Omega.{arith}
-use Rattle.derivation.specs.DerivationFile.{line-count}
-use Rattle.derivation.specs.Parent.{line-start}
+use Rattle.derivation.specs.DerivationFile.{line-count, line-start}
 use Rattle.derivation.proofs.LineLaws.{line-value-within}
 use Rattle.derivation.proofs.ParentLaws.{clause-value, line-kept-at, line-value}
 use Rattle.derivation.proofs.parent.parent_value.Statement.{statement}

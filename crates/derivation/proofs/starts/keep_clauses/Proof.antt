@@ -72,7 +72,11 @@ returns : tie.Need-returns Inv-loop μ-loop
 returns c =
     let inv = c .before .loop .inv in
     let m = ap (λ h. h .clauses) (c .before .before .before .pre .1 .0) in
-    (record { each = λ j h. inv .2 .each j (omega (arith, m)) }, (inv .3, inv .4))
+    λ d before. record {
+      room = inv .4;
+      clauses = record { each = λ j h. inv .2 .each j (omega (arith, m)) };
+      lines = record { each = λ j h. inv .3 j ∙ before .each j h };
+    }
 
 pub keep-clauses-spec : {M : Type 1} → statement M
 keep-clauses-spec =

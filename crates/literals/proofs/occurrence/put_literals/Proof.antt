@@ -9,12 +9,12 @@ use lib.Count.{trailingZeros}
 use Rattle.bit_set.specs.BitSet.{has}
 use Rattle.bit_set.proofs.BitSetLaws.{has-none}
 use Rattle.bit_set.proofs.DigitLaws.{lowest-is-least}
-use Rattle.literals.proofs.OccurrencesLaws.{Put, put-none, put-more, put-all, member-next}
+use Rattle.literals.proofs.OccurrencesLaws.{PuttingClause, put-none, put-more, put-all, member-next}
 use Rattle.literals.proofs.occurrence.put_literals.Statement.{statement}
 use Rattle.literals.proofs.occurrence.put_literals.Tie as tie
 
 abbrev Inv-loop : tie.InvT-loop
-Inv-loop table₀ j mask words place left₀ table left = (left < 2 ^ 64) × Put table₀ j (has mask) 64 table (has left)
+Inv-loop table₀ j mask words place left₀ table left = (left < 2 ^ 64) × PuttingClause table₀ j (has mask) 64 table (has left)
 
 abbrev μ-loop : tie.MeasureT-loop
 μ-loop table₀ j mask words place left₀ table left = left

@@ -27,7 +27,7 @@ bit-is : (c : tie.Else2) → let k = 2 * c .before .before .args .v in 1 * 2 ^ k
 bit-is c = shifted-one (2 * c .before .before .args .v) (omega arith)
 
 sub-result : tie.Need-sub-result
-sub-result c = rw (bit-is c) (pow-pos (2 * c .before .before .args .v))
+sub-result c = rw (bit-is c) (omega (arith, pow-pos (2 * c .before .before .args .v)))
 
 returns-3 : tie.Need-returns-3
 returns-3 c =

@@ -11,7 +11,7 @@ use Rattle.writing.specs.File.{line-words}
 use Rattle.writing.proofs.ReadLaws.{length-blocking}
 use Rattle.bit_set.specs.BitSet.{members}
 use Rattle.bit_set.proofs.MemberLaws.{mask-members}
-use Rattle.writer.proofs.LineLaws.{Room, room-is, trailer-fits, exceeds-more, outcome-more}
+use Rattle.writer.proofs.LineLaws.{LineRoom, room-is, trailer-fits, exceeds-more, outcome-more}
 use Rattle.writer.proofs.line.write_blocking.Statement.{statement}
 use Rattle.writer.proofs.line.write_blocking.Tie as tie
 
@@ -29,7 +29,7 @@ returns c ls holds =
     exceeds-more holds (blocking clause) (length-blocking clause) ∙ ap not (sym (c .before .fits2 .ensures) ∙ not-true _ (c .if1 .taken))
 
 -- there is room for the line
-room : (c : tie.Else1) → let a = start c .args in Room (a .limit) (a .progress) (4 + length (members (a .clause)))
+room : (c : tie.Else1) → let a = start c .args in LineRoom (a .limit) (a .progress) (4 + length (members (a .clause)))
 room c = room-is (c .before .fits2 .result) (c .before .fits2 .ensures) (c .if1 .left)
 
 put-clause-requires : tie.Need-put-clause-requires

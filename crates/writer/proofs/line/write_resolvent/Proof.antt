@@ -17,7 +17,7 @@ use Rattle.writing.specs.File.{clause-words, line-words}
 use Rattle.writing.proofs.ReadLaws.{length-clause-words, length-resolvent}
 use Rattle.bit_set.specs.BitSet.{members}
 use Rattle.bit_set.proofs.MemberLaws.{mask-members}
-use Rattle.writer.proofs.LineLaws.{Room, room-is, trailer-fits, exceeds-more, outcome-more}
+use Rattle.writer.proofs.LineLaws.{LineRoom, room-is, trailer-fits, exceeds-more, outcome-more}
 use Rattle.writer.proofs.line.write_resolvent.Statement.{statement}
 use Rattle.writer.proofs.line.write_resolvent.Tie as tie
 
@@ -45,7 +45,7 @@ returns c ls holds =
     exceeds-more holds (resolvent clause _ _ _) (length-resolvent clause _ _ _) ∙ ap not (sym (c .before .fits2 .ensures) ∙ not-true _ (c .if1 .taken))
 
 -- there is room for the line
-room : (c : tie.Else1) → let a = start c .args in Room (a .limit) (a .progress) (7 + length (members (a .clause)))
+room : (c : tie.Else1) → let a = start c .args in LineRoom (a .limit) (a .progress) (7 + length (members (a .clause)))
 room c = room-is (c .before .fits2 .result) (c .before .fits2 .ensures) (c .if1 .left)
 
 put-clause-requires : tie.Need-put-clause-requires
