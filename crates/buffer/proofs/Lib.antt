@@ -1,4 +1,3 @@
 -- Laws of what is put into a buffer.
 pub mod TextLaws
 pub mod DecimalLaws
-pub mod BytesLaws

@@ -1,18 +1,14 @@
--- Texts put into a buffer: the copy of one text, texts one after another, words one after another, a text at the
--- buffer's start, and one number more. The digits of a number are in DecimalLaws, the bytes of 32-bit words in
--- BytesLaws. Assumes nothing.
+-- Texts put into a buffer: the copy of one text, texts one after another, a text at the buffer's start, and one number
+-- more. The digits of a number are in DecimalLaws. Assumes nothing.
 use mathlib.Core.Path.{_≡_, sym, ap, ap₂, _∙_}
 use mathlib.Core.List.{List, [], _∷_, _++_, append-nil, append-assoc}
-use Prim.Native.Nat.{ℕ, zero, suc, _+_, _-_, _≤_, _<_, zero-le}
+use Prim.Native.Nat.{ℕ, zero, suc, _+_, _≤_, _<_, zero-le}
 use native.Mathlib.Nat.{add-zero, le-of-suc-le-suc}
 use native.Mathlib.Omega.{arith}
 use native.Mathlib.Numerals.{add-one}
 use lib.ListN.{length, take, drop, getD, set, length-append, length-take, length-drop, take-append-drop}
 use lib.Seq.{paste, paste-suc, take-all, take-at, drop-at, drop-drop, length-take-le}
-use Rattle.io.specs.Counts.{Counts}
-use Rattle.buffer.specs.Bytes.{word-bytes, bytes-of}
-use Rattle.buffer.specs.Text.{Put, decimal, after-blanks}
-use Rattle.buffer.proofs.BytesLaws.{bytes-of-append}
+use Rattle.buffer.specs.Text.{Put, decimal, after-blanks, Begins}
 
 -- a copy goes on by one byte
 pub paste-more :
@@ -60,38 +56,17 @@ pub put-length : {a b : List ℕ} {i j : ℕ} {s : List ℕ} → j ≤ length a 
 put-length h p =
     ap length (p .contents) ∙ simp (length-append, length-take, length-drop) (omega (arith, p .ends))
 
--- a word, words after words, and a word after words
-pub put-first-word : {a b : List ℕ} {i j : ℕ} (w : ℕ) → Put a i (word-bytes w) b j → Put a i (bytes-of (w ∷ [])) b j
-unfolding bytes-of
-put-first-word w p = rw append-nil p
-
-module _ {a b c : List ℕ} {i j k : ℕ} (vs : List ℕ) (h : i ≤ length a) (p : Put a i (bytes-of vs) b j) where
-  pub put-words-after : (ws : List ℕ) → Put b j (bytes-of ws) c k → Put a i (bytes-of (vs ++ ws)) c k
-  put-words-after ws q = rw (bytes-of-append vs ws) (put-append h p q)
-
-  pub put-word-after : (w : ℕ) → Put b j (word-bytes w) c k → Put a i (bytes-of (vs ++ (w ∷ []))) c k
-  put-word-after w q = put-words-after (w ∷ []) (put-first-word w q)
-
 -- a text at the buffer's start
-pub put-at-start :
-    {a s b : List ℕ} {r : ℕ} → Put a 0 s b r → Counts r b × (r ≡ length s) × (take r b ≡ s) × (drop r b ≡ drop r a)
-put-at-start {a} {s} {b} {r} p =
-    let e : r ≡ length s = omega (arith, p .ends) in
-    let front : take r b ≡ s = put-front zero-le p in
-    let n : r ≡ length (take r b) = e ∙ ap length (sym front) in
-    ((omega (arith, length-take r b), n), e, front, put-past zero-le p)
-
--- a text at the start stands there still, and a longer one takes its place
-module _ {a b s : List ℕ} {r : ℕ} (p : Put a 0 s b r) where
-  pub put-again : Put b 0 s b r
-  put-again = let (_, _, front, _) = put-at-start p in record { ends = p .ends; contents = sym (take-append-drop r b) ∙ ap (_++ drop r b) front }
-
-  pub put-over : {t c : List ℕ} {e : ℕ} → r ≤ e → Put b 0 t c e → Put a 0 t c e
-  put-over {t} {c} {e} h q =
-      let past : drop r b ≡ drop r a = put-at-start p .3 in
-      let more : r + (e - r) ≡ e = omega arith in
-      let same : drop e b ≡ drop e a = ap (λ k. drop k b) (sym more) ∙ sym (drop-drop (e - r) r b) ∙ ap (drop (e - r)) past ∙ drop-drop (e - r) r a ∙ ap (λ k. drop k a) more in
-      record { ends = q .ends; contents = q .contents ∙ ap (t ++_) same }
+pub put-begins : {before text after : List ℕ} {n : ℕ} → Put before 0 text after n → Begins before text after n
+put-begins {text = text} {after} {n} p =
+    let size : n ≡ length text = omega (arith, p .ends) in
+    let front : take n after ≡ text = put-front zero-le p in
+    record {
+      within = (omega (arith, length-take n after, ap length front), size ∙ ap length (sym front));
+      size = size;
+      text-is = front;
+      rest-kept = put-past zero-le p;
+    }
 
 -- one number more
 pub blanks-more :

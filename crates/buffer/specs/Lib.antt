@@ -1,3 +1,2 @@
--- Texts and 32-bit words as bytes, and a buffer that they are put into.
+-- Texts as bytes, and a buffer that they are put into.
 pub mod Text
-pub mod Bytes

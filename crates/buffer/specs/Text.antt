@@ -7,6 +7,7 @@ use Prim.Native.Char.{code}
 use Prim.Native.String.{String}
 use lib.Dec.{ltb}
 use lib.ListN.{length, take, drop}
+use Rattle.io.specs.Counts.{Counts}
 
 -- the bytes of a text
 unfoldable pub ascii : String → List ℕ
@@ -39,3 +40,10 @@ line name ns = name ++ after-blanks ns ++ (10 ∷ [])
 pub record Put (before : List ℕ) (at : ℕ) (text after : List ℕ) (end : ℕ) : Type 0 where
   pub ends : end ≡ at + length text
   pub contents : after ≡ take at before ++ text ++ drop end before
+
+-- a text of n bytes stands at the buffer's start, and the buffer's other bytes are as they were
+pub record Begins (before text after : List ℕ) (n : ℕ) : Type 0 where
+  pub within : Counts n after
+  pub size : n ≡ length text
+  pub text-is : take n after ≡ text
+  pub rest-kept : drop n after ≡ drop n before

@@ -1,11 +1,9 @@
-// Text, numbers and 32-bit words put into a buffer, piece after piece. Each function answers the index past what it
-// put.
+// Text and numbers put into a buffer, piece after piece. Each function answers the index past what it put.
 ghost use mathlib.Core.Path.{_≡_};
 ghost use mathlib.Core.List.{_∷_};
-ghost use Prim.Native.Nat.{_+_, _*_, _^_, _≤_, _<_};
+ghost use Prim.Native.Nat.{_+_, _*_, _≤_};
 ghost use lib.ListN.{length};
 ghost use Rattle.buffer.specs.Text.{Put, decimal, after-blanks, line};
-ghost use Rattle.buffer.specs.Bytes.{word-bytes};
 
 // The bytes of `text`, from index `at` on.
 pub fn put(out: &mut [u8], at: usize, text: &[u8]) -> usize
@@ -22,7 +20,7 @@ pub fn put(out: &mut [u8], at: usize, text: &[u8]) -> usize
 }
 
 // A blank and n in decimal: at most 21 bytes.
-pub fn put_number(out: &mut [u8], at: usize, n: u64) -> usize
+fn put_number(out: &mut [u8], at: usize, n: u64) -> usize
     requires { ⌜ at + 21 ≤ length (now out) ⌝ }
     ensures text { λ r. ⌜ Put (now (out .entry)) at (32 ∷ decimal n) (now (out .exit)) r ⌝ }
     ensures end { λ r. ⌜ r ≤ at + 21 ⌝ }
@@ -34,7 +32,7 @@ pub fn put_number(out: &mut [u8], at: usize, n: u64) -> usize
 }
 
 // Each number after a blank.
-pub fn put_numbers(out: &mut [u8], at: usize, numbers: &[u64]) -> usize
+fn put_numbers(out: &mut [u8], at: usize, numbers: &[u64]) -> usize
     requires { ⌜ at + 21 * length (now numbers) ≤ length (now out) ⌝ }
     ensures text { λ r. ⌜ Put (now (out .entry)) at (after-blanks (now (numbers .entry))) (now (out .exit)) r ⌝ }
     ensures end { λ r. ⌜ r ≤ at + 21 * length (now (numbers .entry)) ⌝ }
@@ -60,22 +58,4 @@ pub fn put_line(out: &mut [u8], at: usize, name: &[u8], numbers: &[u64]) -> usiz
     let first = put(out, at, name);
     let last = put_numbers(out, first, numbers);
     put(out, last, b"\n")
-}
-
-// A 32-bit word, least byte first: 4 bytes.
-pub fn put_word(out: &mut [u8], at: usize, w: usize) -> usize
-    requires { ⌜ at + 4 ≤ length (now out) ⌝ }
-    requires { ⌜ w < 2 ^ 32 ⌝ }
-    ensures { λ r. ⌜ Put (now (out .entry)) at (word-bytes w) (now (out .exit)) r ⌝ }
-{
-    put(
-        out,
-        at,
-        &[
-            (w % 256) as u8,
-            (w / 256 % 256) as u8,
-            (w / 65536 % 256) as u8,
-            (w / 16777216) as u8,
-        ],
-    )
 }

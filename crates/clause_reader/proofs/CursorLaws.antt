@@ -6,9 +6,9 @@ use mathlib.Core.Option.{none, some}
 use Prim.Native.Nat.{ℕ, zero, suc, _-_, _≤_, _<_}
 use native.Mathlib.Omega.{arith}
 use borrow.Author.Tests.{lt-ltb, le-ltb, le-leb, lt-leb}
-use Rattle.rule_file.specs.Words.{word-count}
-use Rattle.rule_file.specs.RuleFile.{after-clause}
-use Rattle.rule_file.specs.Answer.{Answer}
+use Rattle.answer.specs.Answer.{Answer}
+use Rattle.words.specs.Words.{word-count}
+use Rattle.clause_words.specs.Clauses.{after-clause}
 use Rattle.clause_reader.specs.Cursor.{Place, given-clause, given-at, clause-file, past, advance-file}
 
 module _ (b : List ℕ) (p : Place) where

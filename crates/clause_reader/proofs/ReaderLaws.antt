@@ -9,18 +9,19 @@ use native.Mathlib.Nat.{add-zero, add-suc}
 use native.Mathlib.Numerals.{add-one}
 use native.Mathlib.Omega.{arith}
 use lib.ListN.{getD}
-use Rattle.rule_file.specs.Words.{word, all-words}
-use Rattle.rule_file.specs.RuleFile.{clause-count, clauses, after-clause, clause-start}
-use Rattle.rule_file.specs.Answer.{refused, answer}
+use Rattle.answer.specs.Answer.{refused, answer}
+use Rattle.answer.specs.declared.Refusal.{Refusal}
+use Rattle.words.specs.Words.{word, all-words}
+use Rattle.words.proofs.WalkLaws.{start-zero, start-suc}
+use Rattle.words.proofs.WordsLaws.{part-words}
+use Rattle.clause_words.specs.Clauses.{after-clause, clause-start}
+use Rattle.rule_file.specs.RuleFile.{clause-count, clauses}
 use Rattle.rule_file.specs.Reader.{read-file}
 use Rattle.rule_file.specs.Accepted.{Accepted}
-use Rattle.rule_file.specs.declared.Refusal.{Refusal}
-use Rattle.rule_file.proofs.WalkLaws.{start-zero, start-suc}
-use Rattle.rule_file.proofs.WordsLaws.{part-words}
-use Rattle.rule_file.proofs.ClauseLaws.{clause-is, clause-within}
+use Rattle.rule_file.proofs.FileLaws.{clause-is, clause-within}
 use Rattle.rule_file.proofs.AcceptedLaws.{accepted-answers}
-use Rattle.clause_reader.proofs.CursorLaws.{none-left, given-is, advance-over, advance-stays, advance-suc}
 use Rattle.clause_reader.specs.Cursor.{Place, Clause, start-file, given-at, clause-file, advance-file, nth-file, clause-bytes}
+use Rattle.clause_reader.proofs.CursorLaws.{none-left, given-is, advance-over, advance-stays, advance-suc}
 
 module _ (b : List ℕ) where
   -- clause j's place, where the walk from word 0 finds it

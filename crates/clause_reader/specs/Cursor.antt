@@ -5,9 +5,9 @@ use mathlib.Core.Bool.{Bool, cond, _&&_}
 use mathlib.Core.List.{List, []}
 use mathlib.Core.Option.{Option, none, some}
 use lib.Dec.{leb, ltb}
-use Rattle.rule_file.specs.Words.{word, word-count, part}
-use Rattle.rule_file.specs.RuleFile.{after-clause}
-use Rattle.rule_file.specs.Answer.{Answer, refused, answer, and-then}
+use Rattle.answer.specs.Answer.{Answer, refused, answer, and-then}
+use Rattle.words.specs.Words.{word, word-count, part}
+use Rattle.clause_words.specs.Clauses.{after-clause}
 use Rattle.rule_file.specs.Reader.{read-file}
 use Rattle.clause_reader.specs.declared.cursor.Cursor.{Cursor}
 use Rattle.clause_reader.specs.declared.cursor.Cursor.the-variants as cursor

@@ -1,9 +1,9 @@
 // The clause reader's core, on a rule file and a cursor in it.
+use answer::Refusal;
 use rule_file::Reading;
-use rule_file::Refusal;
 use rule_file::read;
-use rule_file::words::part;
-use rule_file::words::word;
+use words::part;
+use words::word;
 ghost use mathlib.Core.Path.{_≡_};
 ghost use Rattle.clause_reader.specs.Cursor.{start-file, clause-file, advance-file, clause-bytes, placing, stepping};
 

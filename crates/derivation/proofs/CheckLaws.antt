@@ -1,26 +1,19 @@
--- The check's answer, one check at a time: 14, what a refusal of a line passes on, and 21. 13 is WordsLaws'
--- right-length, and 15 and 16 are places that WalkLaws speaks of. Assumes nothing.
-use mathlib.Core.Path.{_≡_, refl, ap, _∙_}
-use mathlib.Core.Bool.{true, false}
+-- The check's answer, one check at a time: 14, what a refusal of a line passes on, and what has passed 21. 13 is
+-- WordsLaws' right-length, and 15 and 16 are places that WalkLaws speaks of. Assumes nothing.
+use mathlib.Core.Path.{_≡_, refl}
 use mathlib.Core.List.{List}
 use mathlib.Core.Option.{Option, none, some}
 use Prim.Native.Nat.{ℕ, _≤_}
-use lib.ListN.{length}
-use borrow.Author.Tests.{eq-eqb, ne-eqb, le-ltb, eqb-true, ltb-false, not-false}
+use borrow.Author.Tests.{eq-eqb, le-ltb, eqb-true, ltb-false, not-false}
 use Rattle.formula.proofs.SomeLaws.{or-false}
-use Rattle.rule_file.specs.Limits.{max-lines}
-use Rattle.rule_file.specs.Words.{word-count, stated-count}
-use Rattle.rule_file.specs.RuleFile.{clause-count, clauses}
-use Rattle.rule_file.specs.Answer.{Answer, answer}
-use Rattle.rule_file.proofs.WordsLaws.{Decides}
-use Rattle.rule_file.proofs.AcceptedLaws.{answer-no-refusal}
-use Rattle.resolution.specs.Resolution.{some-if, empty-value, closing-value}
-use Rattle.derivation.specs.DerivationFile.{line-count, lines}
+use Rattle.limits.specs.Limits.{max-lines}
+use Rattle.answer.specs.Answer.{Answer, answer}
+use Rattle.answer.proofs.AnswerLaws.{answer-no-refusal}
+use Rattle.words.specs.Words.{word-count, stated-count}
+use Rattle.words.proofs.WordsLaws.{Decides}
+use Rattle.derivation.specs.DerivationFile.{line-count}
 use Rattle.derivation.specs.Check.{wrong-counts, refuse-line, close}
-use Rattle.derivation.specs.Parent.{is-named, referent-literals, referent-value, referent}
 use Rattle.derivation.specs.declared.Closing.{Closing}
-use Rattle.derivation.proofs.LineLaws.{lines-length}
-use Rattle.derivation.proofs.ParentLaws.{lookup-is}
 
 pub check-14 : (d : List ℕ) → Decides (wrong-counts d) ((stated-count d ≡ word-count d) × (line-count d ≤ max-lines))
 unfolding wrong-counts
@@ -37,21 +30,3 @@ passed-line (some f) rest x e = absurd (answer-no-refusal _ x e)
 pub passed-closing : (o : Option ℕ) (w : ℕ) (c : Closing) → close o w ≡ answer c → (o ≡ some (c .value)) × (c .whole ≡ w)
 passed-closing none w c e = absurd (answer-no-refusal _ c e)
 passed-closing (some x) w c e = (cc, cc)
-
--- 21: what the closing reference names
-module _ (b d : List ℕ) (r : ℕ) where
-  closing-is : closing-value (clauses b) (lines d) r ≡ empty-value (some-if (is-named (clause-count b) (line-count d) r) (referent b d r))
-  closing-is = rw (lines-length d) (ap empty-value (lookup-is b d (line-count d) r))
-
-  pub closing-absent : is-named (clause-count b) (line-count d) r ≡ false → closing-value (clauses b) (lines d) r ≡ none
-  unfolding empty-value
-  closing-absent e = closing-is ∙ rw e
-
-  module _ (e : is-named (clause-count b) (line-count d) r ≡ true) where
-    pub closing-with-literals : (length (referent-literals b d r) ≡ 0 → ⊥) → closing-value (clauses b) (lines d) r ≡ none
-    unfolding empty-value
-    closing-with-literals n = closing-is ∙ rw (e, ne-eqb _ _ n)
-
-    pub closing-empty : length (referent-literals b d r) ≡ 0 → closing-value (clauses b) (lines d) r ≡ some (referent-value d r)
-    unfolding empty-value
-    closing-empty z = closing-is ∙ rw (e, eq-eqb _ _ z)

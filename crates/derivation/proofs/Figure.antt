@@ -3,11 +3,11 @@
 use mathlib.Core.Path.{_≡_, sym}
 use mathlib.Core.List.{List}
 use Prim.Native.Nat.{ℕ}
-use Rattle.rule_file.specs.RuleFile.{clauses, prefix}
-use Rattle.rule_file.specs.Answer.{answer}
-use Rattle.rule_file.proofs.AcceptedLaws.{accepted-answers}
 use Rattle.probability.specs.Fraction.{_over_, _≈_}
 use Rattle.probability.specs.Probability.{Pr, proposition}
+use Rattle.answer.specs.Answer.{answer}
+use Rattle.rule_file.specs.RuleFile.{clauses, prefix}
+use Rattle.rule_file.proofs.AcceptedLaws.{accepted-answers}
 use Rattle.value.specs.Value.{figure-file}
 use Rattle.value.proofs.FigureIsPr.{answered-is-Pr}
 use Rattle.derivation.specs.Check.{check-file}

@@ -9,20 +9,21 @@ use Prim.Native.Nat.{ℕ, _<_}
 use lib.ListN.{length}
 use Rattle.formula.specs.Formula.{unordered}
 use Rattle.formula.proofs.Membership.{none-of}
-use Rattle.rule_file.specs.Limits.{max-bytes, derivation-trailer}
-use Rattle.rule_file.specs.RuleFile.{variable-count, clauses, prefix, whole}
-use Rattle.rule_file.specs.Answer.{answer}
-use Rattle.rule_file.specs.Reader.{read-file}
-use Rattle.rule_file.specs.Accepted.{Accepted}
-use Rattle.rule_file.proofs.WalkLaws.{first-none, none-first-place}
-use Rattle.rule_file.proofs.WordsLaws.{right-length}
-use Rattle.rule_file.proofs.ReaderLaws.{ordered-once}
-use Rattle.rule_file.proofs.AcceptedLaws.{passed, passed-at, passed-then, answered, accepted-answers}
 use Rattle.resolution.specs.Resolution.{line, is-blocking, closing-value, judge-lines}
 use Rattle.resolution.specs.Claims.{Implied, Sound}
 use Rattle.resolution.proofs.Check.{judge-lines-iff, closing-iff}
 use Rattle.resolution.proofs.Implied.{blocking-iff-implied}
 use Rattle.resolution.proofs.Derivations.{ordered-non-tautological, accepted-sound, closing-is-figure}
+use Rattle.limits.specs.Limits.{max-bytes, derivation-trailer}
+use Rattle.answer.specs.Answer.{answer}
+use Rattle.answer.proofs.AnswerLaws.{passed, passed-at, passed-then}
+use Rattle.words.proofs.WalkLaws.{first-none, none-first-place}
+use Rattle.words.proofs.WordsLaws.{right-length}
+use Rattle.rule_file.specs.RuleFile.{variable-count, clauses, prefix, whole}
+use Rattle.rule_file.specs.Reader.{read-file}
+use Rattle.rule_file.specs.Accepted.{Accepted}
+use Rattle.rule_file.proofs.ReaderLaws.{ordered-once}
+use Rattle.rule_file.proofs.AcceptedLaws.{answered, accepted-answers}
 use Rattle.derivation.specs.DerivationFile.{line-count, closing-reference, lines}
 use Rattle.derivation.specs.Check.{line-fails, check-from-21, check-from-17, check-from-15, check-from-13, check-file}
 use Rattle.derivation.specs.WellFormed.{WellFormed}

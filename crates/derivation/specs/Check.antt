@@ -6,14 +6,14 @@ use mathlib.Core.Option.{Option, none, some}
 use Prim.Native.Nat.{ℕ, _+_}
 use lib.Dec.{leb, ltb, eqb}
 use Rattle.formula.specs.Formula.{ill-formed}
-use Rattle.rule_file.specs.Limits.{max-bytes, derivation-trailer, max-lines}
-use Rattle.rule_file.specs.Walk.{first, walk}
-use Rattle.rule_file.specs.Words.{word-count, wrong-length, stated-count}
-use Rattle.rule_file.specs.RuleFile.{variable-count, clauses, prefix, whole}
-use Rattle.rule_file.specs.Answer.{Answer, refused, answer, refuse-if, refuse-at, and-then}
-use Rattle.rule_file.specs.Reader.{read-file}
-use Rattle.rule_file.specs.declared.Refusal.the-variants as refusal
 use Rattle.resolution.specs.Resolution.{Line, derived, judge-lines, closing-value}
+use Rattle.limits.specs.Limits.{max-bytes, derivation-trailer, max-lines}
+use Rattle.answer.specs.Answer.{Answer, refused, answer, refuse-if, refuse-at, and-then}
+use Rattle.answer.specs.declared.Refusal.the-variants as refusal
+use Rattle.words.specs.Walk.{first, walk}
+use Rattle.words.specs.Words.{word-count, wrong-length, stated-count}
+use Rattle.rule_file.specs.RuleFile.{variable-count, clauses, prefix, whole}
+use Rattle.rule_file.specs.Reader.{read-file}
 use Rattle.derivation.specs.DerivationFile.{trailer-start, line-count, closing-reference, kind, size, after-line, lines}
 use Rattle.derivation.specs.declared.Closing.{Closing}
 use Rattle.derivation.specs.declared.Checking.{Checking}

@@ -4,9 +4,9 @@ use mathlib.Core.Bool.{cond}
 use mathlib.Core.List.{List}
 use Prim.Native.Nat.{ℕ, _+_, _-_, _*_, _^_}
 use lib.Dec.{eqb}
-use Rattle.rule_file.specs.Walk.{elements, start}
-use Rattle.rule_file.specs.Words.{word, word-count, words}
 use Rattle.resolution.specs.Resolution.{Annotated, Line, blocking, resolvent}
+use Rattle.words.specs.Walk.{elements, start}
+use Rattle.words.specs.Words.{word, word-count, words}
 
 -- the trailer's three words, the file's last: the line count, the closing reference, which names the clause that the
 -- derivation closes with, and the count of all words

@@ -4,9 +4,9 @@ use mathlib.Core.Path.{_≡_}
 use mathlib.Core.List.{List, []}
 use Prim.Native.Nat.{ℕ, _<_}
 use Rattle.formula.specs.Tree.{figure}
+use Rattle.resolution.specs.Resolution.{Annotated, derived, line-at, Names, Follows}
 use Rattle.rule_file.specs.RuleFile.{variable-count, clauses, prefix, whole}
 use Rattle.rule_file.specs.Accepted.{Accepted}
-use Rattle.resolution.specs.Resolution.{Annotated, derived, line-at, Names, Follows}
 use Rattle.derivation.specs.DerivationFile.{line-count, closing-reference, lines}
 use Rattle.derivation.specs.WellFormed.{WellFormed}
 use Rattle.derivation.specs.declared.Closing.{Closing}

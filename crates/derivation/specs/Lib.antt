@@ -2,7 +2,4 @@
 pub mod DerivationFile
 pub mod Check
 pub mod WellFormed
-pub mod Parent
-pub mod Starts
-pub mod Readable
 pub mod Derives

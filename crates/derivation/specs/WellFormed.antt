@@ -5,9 +5,8 @@ use mathlib.Core.List.{List}
 use mathlib.Core.Option.{none}
 use Prim.Native.Nat.{ℕ, _≤_}
 use Rattle.formula.specs.Formula.{some-of}
-use Rattle.rule_file.specs.Limits.{max-bytes, derivation-trailer, max-lines}
-use Rattle.rule_file.specs.Words.{word-count, stated-count}
-use Rattle.rule_file.specs.Accepted.{Length}
+use Rattle.limits.specs.Limits.{max-bytes, derivation-trailer, max-lines}
+use Rattle.words.specs.Words.{word-count, stated-count, Length}
 use Rattle.derivation.specs.DerivationFile.{trailer-start, line-count, lines}
 use Rattle.derivation.specs.Check.{walk-lines, line-fails}
 
@@ -22,3 +21,8 @@ pub record WellFormed (n : ℕ) (d : List ℕ) : Type 0 where
   pub right-counts : RightCounts d
   pub walked : walk-lines d n (trailer-start d) (line-count d) 0 ≡ none
   pub no-fault : some-of (line-fails n) (lines d) ≡ false
+
+-- check 15 has passed, whatever the number of variables
+pub record Walked (d : List ℕ) : Type 0 where
+  pub variables : ℕ
+  pub walked : walk-lines d variables (trailer-start d) (line-count d) 0 ≡ none

@@ -2,9 +2,9 @@
 -- 01's program prints. Assumes nothing.
 use mathlib.Core.List.{List}
 use Prim.Native.Nat.{ℕ}
-use Rattle.rule_file.specs.Limits.{max-bytes}
-use Rattle.rule_file.specs.Answer.{Answer, refused, answer}
-use Rattle.writing.specs.Derive.{derive-file}
+use Rattle.limits.specs.Limits.{max-bytes}
+use Rattle.answer.specs.Answer.{Answer, refused, answer}
+use Rattle.written_derivation.specs.Derive.{derive-file}
 use Rattle.report.specs.Report.{refusal-line}
 
 -- the derivation's bytes as they are, or the refusal's line

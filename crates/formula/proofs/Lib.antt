@@ -1,7 +1,8 @@
--- The laws of the meaning of formulas: tests over lists, membership, order inside a clause, statuses, formulas, nodes,
--- clashes, the tree of assignments.
+-- The laws of the meaning of formulas: tests over lists, membership, the elements that pass a test, order inside a
+-- clause, statuses, formulas, nodes, clashes, the tree of assignments.
 pub mod SomeLaws
 pub mod Membership
+pub mod ThoseLaws
 pub mod OrderLaws
 pub mod StatusLaws
 pub mod FormulaLaws

@@ -42,6 +42,11 @@ unfoldable pub all-of : {A : Type 0} → (A → Bool) → List A → Bool
 all-of f [] = true
 all-of f (x ∷ xs) = f x && all-of f xs
 
+-- the elements that pass the test, in their order
+unfoldable pub those : {A : Type 0} → (A → Bool) → List A → List A
+those f [] = []
+those f (x ∷ xs) = cond (f x) (x ∷ those f xs) (those f xs)
+
 -- whether the list has no element
 abbrev pub is-empty : List ℕ → Bool
 is-empty [] = true

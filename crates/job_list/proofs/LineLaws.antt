@@ -11,8 +11,8 @@ use lib.ListN.{length, take, drop, length-drop}
 use lib.Seq.{take-all, drop-drop}
 use lib.Dec.{ltb, eqb, eqb·zero-suc, eqb·suc-suc}
 use borrow.Author.Tests.{ltb-true, ltb-false, eqb-true, eqb-false, eq-eqb, ne-eqb}
-use Rattle.formula.specs.Formula.{some-of, all-of, member}
 use Rattle.bytes.specs.Bytes.{indexOf, slice}
+use Rattle.formula.specs.Formula.{some-of, all-of, member}
 use Rattle.job_list.specs.JobList.{in-front, split, parts, is-name, is-digit, limit-of, Job, with-limits, job-by, job-of}
 use Rattle.job_list.proofs.LimitLaws.{below-digits, not-digits}
 use Rattle.job_list.proofs.SplitLaws.{index-nil, Head, here, later, head, index-le, split-closed, split-none, found}

@@ -5,8 +5,8 @@ use mathlib.Core.Path.{_≡_, sym}
 use mathlib.Core.List.{List}
 use lib.ListN.{length}
 use borrow.Author.Tests.{ltb-false}
-use Rattle.rule_file.specs.Answer.{answer}
-use Rattle.rule_file.proofs.AcceptedLaws.{passed, same-answer}
+use Rattle.answer.specs.Answer.{answer}
+use Rattle.answer.proofs.AnswerLaws.{passed, same-answer}
 use Rattle.job_list.specs.JobList.{max-list-bytes, max-list-lines, list-lines, list-file}
 
 pub record AcceptedList (b : List ℕ) (k : ℕ) : Type 0 where

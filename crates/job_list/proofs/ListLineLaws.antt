@@ -1,7 +1,7 @@
 -- The job list in document 02's words. A list at its first byte c; the lines of a list; a name and a limit as
 -- statements; a list line and the job that it gives (list-line-iff, other-form-iff). Last, computed examples.
 -- Assumes nothing.
-use Prim.Native.Nat.{ℕ, suc, _^_, _≤_}
+use Prim.Native.Nat.{ℕ, suc, _≤_}
 use Prim.Native.String.{String}
 use native.Mathlib.Omega.{arith}
 use mathlib.Core.Path.{_≡_, refl, sym, ap, _∙_}
@@ -12,10 +12,10 @@ use mathlib.Core.Option.{Option, none, some, Option·none-ne-some, Option·some-
 use lib.ListN.{length}
 use lib.Dec.{leb, eqb}
 use borrow.Author.Tests.{ltb-true, leb-true, eqb-true, eqb-false, lt-ltb, eq-eqb, ne-eqb, not-true}
-use Rattle.buffer.specs.Text.{ascii}
+use Rattle.bytes.specs.Bytes.{indexOf}
 use Rattle.formula.specs.Formula.{_∈_, some-of, all-of, member, is-empty}
 use Rattle.formula.proofs.Membership.{and-iff, all-of-iff, not-member-iff}
-use Rattle.bytes.specs.Bytes.{indexOf}
+use Rattle.buffer.specs.Text.{ascii}
 use Rattle.job_list.specs.JobList.{in-front, split, list-lines, parts, is-name, is-digit, decimal-value-from, decimal-value, fits, is-limit, limit-of, Job, with-limits, job-by, job-of}
 use Rattle.job_list.specs.ListLine.{IsLimit, ListLine, Gives}
 use Rattle.job_list.proofs.LimitLaws.{digit}

@@ -6,7 +6,7 @@ use mathlib.Core.Option.{Option, none, some}
 use lib.ListN.{length, take, drop}
 use lib.Dec.{leb, ltb, eqb}
 use Rattle.formula.specs.Formula.{all-of, member, is-empty}
-use Rattle.rule_file.specs.Answer.{Answer, refused, answer, refuse-if}
+use Rattle.answer.specs.Answer.{Answer, refused, answer, refuse-if}
 use Rattle.job_list.specs.declared.Limiting.{Limiting}
 use Rattle.job_list.specs.declared.Parsing.{Parsing}
 use Rattle.job_list.specs.declared.Listing.{Listing}

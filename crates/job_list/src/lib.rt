@@ -1,6 +1,6 @@
 // The job list: its lines, and the file name and the two limits that a line gives.
+use answer::Refusal;
 use bytes::scan::find;
-use rule_file::Refusal;
 ghost use mathlib.Core.Path.{_≡_};
 ghost use Prim.Native.Nat.{_≤_};
 ghost use lib.ListN.{length};

@@ -6,16 +6,17 @@ use Prim.Native.Nat.{ℕ, _≤_, _<_}
 use lib.ListN.{length}
 use lib.Dec.{ltb}
 use borrow.Author.Tests.{lt-ltb, le-ltb, ltb-false}
-use Rattle.rule_file.specs.Limits.{stored-limits}
-use Rattle.rule_file.specs.Answer.{refused, answer}
+use Rattle.answer.specs.Answer.{refused, answer}
+use Rattle.answer.specs.declared.Refusal.{Refusal}
+use Rattle.answer.specs.declared.Refusal.the-variants.{Alone}
+use Rattle.answer.proofs.AnswerLaws.{passed, passed-then, same-answer}
+use Rattle.rule_file.specs.ReaderLimits.{stored-limits}
 use Rattle.rule_file.specs.Reader.{reading, read-stored}
 use Rattle.rule_file.specs.Accepted.{AcceptedWithin, header}
 use Rattle.rule_file.specs.declared.Header.{Header}
-use Rattle.rule_file.specs.declared.Refusal.{Refusal}
-use Rattle.rule_file.specs.declared.Refusal.the-variants.{Alone}
 use Rattle.rule_file.specs.declared.Reading.{Reading}
 use Rattle.rule_file.specs.declared.Reading.the-variants as reading-variants
-use Rattle.rule_file.proofs.AcceptedLaws.{passed, passed-then, same-answer, answered-within, within-answers}
+use Rattle.rule_file.proofs.AcceptedLaws.{answered-within, within-answers}
 use Rattle.repair.specs.Repair.{repaired-file, repair-file}
 
 -- what is repaired was accepted by the reader of stored files, and the buffer is as long

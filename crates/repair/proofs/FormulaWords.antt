@@ -15,15 +15,14 @@ use Rattle.formula.specs.Nodes.{Every}
 use Rattle.formula.proofs.NodesLaws.{every-cons}
 use Rattle.formula.proofs.SomeLaws.{none-first, none-rest}
 use Rattle.formula.proofs.Membership.{in-range-iff}
-use Rattle.rule_file.specs.Limits.{max-variables}
-use Rattle.rule_file.specs.Walk.{start, elements, later, walk}
-use Rattle.rule_file.specs.Words.{word, next-word}
-use Rattle.rule_file.specs.RuleFile.{after-clause, clause-at, clause-start, clauses-from}
-use Rattle.rule_file.specs.Reader.{clause-fits, walk-clauses}
-use Rattle.rule_file.proofs.WalkLaws.{start-next, elements-length, step-on, walked-end}
-use Rattle.rule_file.proofs.ClauseLaws.{fits-by-length}
-use Rattle.rule_file.proofs.WordsLaws.{Stand, stand-word, stand-first, stand-rest}
-use Rattle.word_writer.proofs.WordsBack.{FitWords, fit-nil, fit-cons, fit-append}
+use Rattle.limits.specs.Limits.{max-variables}
+use Rattle.words.specs.Walk.{start, elements, later, walk}
+use Rattle.words.specs.Words.{word, next-word}
+use Rattle.words.proofs.WalkLaws.{start-next, elements-length, step-on, walked-end}
+use Rattle.words.proofs.WordsLaws.{Stand, stand-word, stand-first, stand-rest}
+use Rattle.words.proofs.WordsBack.{FitWords, fit-nil, fit-cons, fit-append}
+use Rattle.clause_words.specs.Clauses.{after-clause, clause-at, clause-start, clauses-from, clause-fits, walk-clauses}
+use Rattle.clause_words.proofs.ClauseLaws.{fits-by-length}
 use Rattle.repair.specs.File.{formula-words}
 
 pub formula-words-append : (φ ψ : List (List ℕ)) → formula-words (φ ++ ψ) ≡ formula-words φ ++ formula-words ψ

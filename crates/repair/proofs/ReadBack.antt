@@ -14,18 +14,20 @@ use lib.Seq.{ext-getD}
 use Rattle.formula.specs.Formula.{some-of, out-of-range}
 use Rattle.formula.specs.Nodes.{Every}
 use Rattle.formula.specs.Quantifier.{existential}
-use Rattle.buffer.specs.Bytes.{bytes-of}
-use Rattle.buffer.proofs.BytesLaws.{length-bytes-of}
-use Rattle.rule_file.specs.Limits.{rule-trailer, max-bytes, max-variables, max-clauses, stored-limits}
-use Rattle.rule_file.specs.Walk.{elements}
-use Rattle.rule_file.specs.Words.{word, word-count, stated-count, next-word, words, part}
-use Rattle.rule_file.specs.RuleFile.{clause-count, variable-count, prefix-start, after-clause, clause-at, clauses-from, clauses, quantifier, prefix}
-use Rattle.rule_file.specs.Reader.{walk-clauses}
-use Rattle.rule_file.specs.Accepted.{Length, AcceptedWithin}
-use Rattle.rule_file.proofs.WalkLaws.{elements-length}
-use Rattle.rule_file.proofs.WordsLaws.{Stand, stand-word, stand-first, stand-rest, words-stand}
-use Rattle.rule_file.proofs.PrefixLaws.{prefix-length, quantifier-is}
-use Rattle.word_writer.proofs.WordsBack.{FitWords, fit-nil, fit-cons, fit-append, words-back, part-bytes}
+use Rattle.limits.specs.Limits.{rule-trailer, max-bytes, max-variables, max-clauses}
+use Rattle.words.specs.Bytes.{bytes-of}
+use Rattle.words.specs.Walk.{elements}
+use Rattle.words.specs.Words.{word, word-count, stated-count, next-word, words, part, Length}
+use Rattle.words.proofs.BytesLaws.{length-bytes-of}
+use Rattle.words.proofs.WalkLaws.{elements-length}
+use Rattle.words.proofs.WordsLaws.{Stand, stand-word, stand-first, stand-rest, words-stand}
+use Rattle.words.proofs.WordsBack.{FitWords, fit-nil, fit-cons, fit-append, words-back, part-bytes}
+use Rattle.prefix_words.specs.Prefix.{quantifier}
+use Rattle.clause_words.specs.Clauses.{after-clause, clause-at, clauses-from, walk-clauses}
+use Rattle.rule_file.specs.ReaderLimits.{stored-limits}
+use Rattle.rule_file.specs.RuleFile.{clause-count, variable-count, prefix-start, clauses, prefix}
+use Rattle.rule_file.specs.Accepted.{AcceptedWithin}
+use Rattle.rule_file.proofs.FileLaws.{prefix-length, quantifier-is}
 use Rattle.repair.specs.File.{formula-words, rule-words, rule-bytes, weights}
 use Rattle.repair.proofs.FormulaWords.{formula-small, formula-end, clauses-back, walk-clauses-back}
 

@@ -14,19 +14,20 @@ use Rattle.formula.specs.Quantifier.{randomized}
 use Rattle.formula.proofs.SomeLaws.{or-false, none-first, none-rest}
 use Rattle.formula.proofs.Membership.{none-of}
 use Rattle.formula.proofs.OrderLaws.{ordered-short}
-use Rattle.buffer.specs.Bytes.{bytes-of}
+use Rattle.limits.specs.Limits.{max-weight}
 use Rattle.buffer.specs.Text.{Put}
-use Rattle.buffer.proofs.BytesLaws.{length-bytes-of}
-use Rattle.buffer.proofs.TextLaws.{put-words-after}
-use Rattle.rule_file.specs.Limits.{max-weight, stored-limits}
-use Rattle.rule_file.specs.Walk.{elements}
-use Rattle.rule_file.specs.Words.{word, words}
-use Rattle.rule_file.specs.RuleFile.{clause-count, variable-count, prefix-start, clauses, quantifier, quantifier-at, prefix-from}
-use Rattle.rule_file.specs.Reader.{malformed}
+use Rattle.words.specs.Bytes.{bytes-of}
+use Rattle.words.specs.Walk.{elements}
+use Rattle.words.specs.Words.{word, words}
+use Rattle.words.proofs.BytesLaws.{length-bytes-of}
+use Rattle.words.proofs.PutLaws.{put-words-after}
+use Rattle.words.proofs.WordsBack.{FitWords, fit-nil, fit-cons}
+use Rattle.prefix_words.specs.Prefix.{quantifier, quantifier-at, prefix-from, malformed}
+use Rattle.prefix_words.proofs.PrefixLaws.{quantifier-some}
+use Rattle.rule_file.specs.ReaderLimits.{stored-limits}
+use Rattle.rule_file.specs.RuleFile.{clause-count, variable-count, prefix-start, clauses}
 use Rattle.rule_file.specs.Accepted.{AcceptedWithin}
-use Rattle.rule_file.proofs.ClauseLaws.{clauses-length}
-use Rattle.rule_file.proofs.PrefixLaws.{quantifier-some}
-use Rattle.word_writer.proofs.WordsBack.{FitWords, fit-nil, fit-cons}
+use Rattle.rule_file.proofs.FileLaws.{clauses-length}
 use Rattle.repair.specs.Clauses.{repaired, dropped-clauses, dropped-literals}
 use Rattle.repair.specs.File.{formula-words, rule-words, weights}
 use Rattle.repair.specs.Repair.{repaired-file, repairs}

@@ -9,14 +9,15 @@ use lib.ListN.{length, drop, length-append, length-drop}
 use Rattle.formula.specs.Formula.{some-of, unordered}
 use Rattle.formula.specs.Quantifier.{denominator}
 use Rattle.formula.specs.Tree.{figure}
+use Rattle.answer.specs.Answer.{answer, buffer-after}
+use Rattle.answer.proofs.AnswerLaws.{passed-then, same-answer}
 use Rattle.buffer.specs.Text.{Put}
-use Rattle.buffer.proofs.TextLaws.{put-at-start}
-use Rattle.rule_file.specs.Limits.{stored-limits}
+use Rattle.buffer.proofs.TextLaws.{put-begins}
+use Rattle.rule_file.specs.ReaderLimits.{stored-limits}
 use Rattle.rule_file.specs.RuleFile.{variable-count, clauses, prefix, whole}
-use Rattle.rule_file.specs.Answer.{answer, buffer-after}
 use Rattle.rule_file.specs.Accepted.{AcceptedWithin, Accepted}
-use Rattle.rule_file.proofs.PrefixLaws.{prefix-length}
-use Rattle.rule_file.proofs.AcceptedLaws.{passed-then, same-answer, accepted-answers, stored-accepts}
+use Rattle.rule_file.proofs.FileLaws.{prefix-length}
+use Rattle.rule_file.proofs.AcceptedLaws.{accepted-answers, stored-accepts}
 use Rattle.value.specs.Value.{figure-of, figure-file}
 use Rattle.repair.specs.File.{rule-bytes}
 use Rattle.repair.specs.Repair.{repaired-file, repair-file, repair-answer, repairs}
@@ -103,12 +104,12 @@ repaired-into-buffer b before x e =
     let (a, rest) = answered-repair b (length before) d is in
     let size : length d ≡ x .bytes = ap (λ y. y .bytes) (same-answer (repairs b d) x counted) in
     let put : Put before 0 d (d ++ drop (length d) before) (length d) = record { ends = omega arith; contents = refl } in
-    let (_, _, front, back) = put-at-start put in
+    let begins = put-begins put in
     let within : length d ≤ length before = omega (arith, not-longer b a, rest .0, ap length (rest .1)) in
     let into : RepairedInto b before (d ++ drop (length d) before) (length d) =
     record {
-      claims = rw front (repaired-claims b (length before) d is);
+      claims = rw (begins .text-is) (repaired-claims b (length before) d is);
       same-length = simp (length-append, length-drop) (omega arith);
-      rest-kept = back;
+      rest-kept = begins .rest-kept;
     }
     in subst (λ k. RepairedInto b before (buffer-after (repair-file b (length before)) before) k) size (subst⁻¹ (λ r. RepairedInto b before (buffer-after r before) (length d)) is into)

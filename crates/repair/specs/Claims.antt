@@ -5,8 +5,8 @@ use mathlib.Core.Logic.{_↔_}
 use mathlib.Core.List.{List}
 use lib.ListN.{length, take, drop}
 use Rattle.formula.specs.Nodes.{Met}
+use Rattle.answer.specs.Answer.{answer}
 use Rattle.rule_file.specs.RuleFile.{variable-count, clauses, prefix, whole}
-use Rattle.rule_file.specs.Answer.{answer}
 use Rattle.rule_file.specs.Reader.{read-file}
 use Rattle.rule_file.specs.Accepted.{header}
 use Rattle.value.specs.Value.{figure-of, figure-file}

@@ -3,8 +3,8 @@
 use Prim.Native.Nat.{ℕ, _+_, _*_}
 use mathlib.Core.List.{List, [], _∷_, _++_}
 use lib.ListN.{length}
-use Rattle.buffer.specs.Bytes.{bytes-of}
-use Rattle.rule_file.specs.Words.{words}
+use Rattle.words.specs.Bytes.{bytes-of}
+use Rattle.words.specs.Words.{words}
 use Rattle.rule_file.specs.RuleFile.{variable-count, prefix-start}
 
 -- of each clause its length and its literals

@@ -3,8 +3,8 @@ use Prim.Native.Nat.{ℕ}
 use mathlib.Core.List.{List}
 use lib.ListN.{length}
 use lib.Dec.{ltb}
+use Rattle.answer.specs.Answer.{Answer, refused, answer, refuse-if, and-then}
 use Rattle.rule_file.specs.RuleFile.{variable-count, clauses}
-use Rattle.rule_file.specs.Answer.{Answer, refused, answer, refuse-if, and-then}
 use Rattle.rule_file.specs.Reader.{read-stored}
 use Rattle.repair.specs.Clauses.{repaired, dropped-clauses, dropped-literals, reordered}
 use Rattle.repair.specs.File.{rule-bytes, weights}

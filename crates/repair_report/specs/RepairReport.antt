@@ -1,13 +1,10 @@
 -- The program ssat_repair: what it prints for a rule file, document 02's repaired file to standard output, and to
 -- standard error its counts or the refusal's line. Assumes nothing.
-use mathlib.Core.Path.{_≡_}
 use mathlib.Core.List.{List, [], _∷_, _++_}
 use Prim.Native.Nat.{ℕ}
-use lib.ListN.{length, take, drop}
-use Rattle.io.specs.Counts.{Counts}
+use Rattle.limits.specs.Limits.{max-bytes}
+use Rattle.answer.specs.Answer.{Answer, refused, answer}
 use Rattle.buffer.specs.Text.{ascii, line}
-use Rattle.rule_file.specs.Limits.{max-bytes}
-use Rattle.rule_file.specs.Answer.{Answer, refused, answer}
 use Rattle.repair.specs.Repair.{repair-file, repair-answer}
 use Rattle.repair.specs.declared.Repairs.{Repairs}
 use Rattle.report.specs.Report.{refusal-line}
@@ -34,10 +31,3 @@ counts-or-refusal (answer x) = counts-text x
 -- all that goes to standard error
 unfoldable pub repair-notice : List ℕ → List ℕ
 repair-notice b = counts-or-refusal (repair-answer b max-bytes)
-
--- a buffer, before and after a text of n bytes is put at its start: its other bytes are as they were
-pub record Begins (before text after : List ℕ) (n : ℕ) : Type 0 where
-  pub within : Counts n after
-  pub size : n ≡ length text
-  pub text-is : take n after ≡ text
-  pub rest-kept : drop n after ≡ drop n before

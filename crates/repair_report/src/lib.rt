@@ -1,13 +1,13 @@
 // What the program ssat_repair prints for a rule file, byte for byte: to standard output and to standard error.
 use buffer::put_line;
+use limits::MAX_BYTES;
 use repair::Repairing;
 use repair::Repairs;
 use repair::repair;
 use report::put_refusal;
-use rule_file::limits::MAX_BYTES;
 ghost use mathlib.Core.Path.{_≡_};
-ghost use Rattle.buffer.specs.Text.{Put};
-ghost use Rattle.repair_report.specs.RepairReport.{repair-output, counts-text, repair-notice, Begins};
+ghost use Rattle.buffer.specs.Text.{Put, Begins};
+ghost use Rattle.repair_report.specs.RepairReport.{repair-output, counts-text, repair-notice};
 
 // How many bytes go to standard output and to standard error.
 pub struct Printed {

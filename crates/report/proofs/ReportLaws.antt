@@ -4,22 +4,22 @@ use mathlib.Core.Path.{_≡_, refl, sym, ap, ap₂, _∙_}
 use mathlib.Core.List.{List, _++_}
 use Prim.Native.Nat.{ℕ, zero, suc, _≤_, _<_}
 use native.Mathlib.Omega.{arith}
-use Rattle.rule_file.specs.RuleFile.{variable-count, whole}
-use Rattle.rule_file.specs.Answer.{answer}
+use Rattle.bounds.specs.declared.Bounds.{Bounds}
+use Rattle.answer.specs.Answer.{answer}
+use Rattle.answer.specs.declared.Refusal.{Refusal}
+use Rattle.rule_file.specs.RuleFile.{variable-count, whole, clauses, prefix}
 use Rattle.rule_file.specs.Reader.{reading, read-file}
 use Rattle.rule_file.specs.Accepted.{Accepted, header}
 use Rattle.rule_file.specs.declared.Header.{Header}
-use Rattle.rule_file.specs.declared.Refusal.{Refusal}
 use Rattle.rule_file.specs.declared.Reading.{Reading}
 use Rattle.rule_file.specs.declared.Reading.the-variants as reading-variants
 use Rattle.value.specs.Value.{figure-of, figure-file}
+use Rattle.value.specs.Cut.{cut-of, cut-file}
 use Rattle.value.proofs.ValueLaws.{figure-answers}
-use Rattle.bounds.specs.Cut.{cut-of, cut-file}
-use Rattle.bounds.specs.declared.Bounds.{Bounds}
-use Rattle.bounds.proofs.CutAnswer.{cut-answers}
-use Rattle.search.specs.Level.{cut-table}
-use Rattle.search.proofs.AnswerLaws.{figure-last}
+use Rattle.value.proofs.CutAnswer.{cut-answers}
 use Rattle.search.proofs.CutsLaws.{cut-at}
+use Rattle.solver.specs.FileTables.{cut-table}
+use Rattle.solver.proofs.AnswerLaws.{figure-at-last}
 use Rattle.report.specs.Report.{refusal-line, cut-line, cut-lines, at-level, head-text, accepted-text, text-by, report-text}
 
 module _ (b : List ℕ) (r : Reading) (e : reading r ≡ read-file b) where
@@ -40,10 +40,10 @@ lines-agree cut cut′ (suc k) same = ap₂ (λ text x. text ++ cut-line k x) (l
 -- the text from the table that the search makes
 module _ (b : List ℕ) {cuts : List Bounds} (accepted : Accepted b) (are : cuts ≡ cut-table b) where
   tabled : (d : ℕ) → d < suc (variable-count b) → at-level cuts d ≡ cut-of b d
-  tabled d h = ap (λ table. at-level table d) are ∙ cut-at b (suc (variable-count b)) d _ h
+  tabled d h = ap (λ table. at-level table d) are ∙ cut-at (clauses b) (prefix b) (suc (variable-count b)) d _ h
 
   figure-tabled : at-level cuts (variable-count b) .lower ≡ figure-of b
-  figure-tabled = ap (λ x. x .lower) (tabled (variable-count b) (omega arith)) ∙ figure-last accepted refl
+  figure-tabled = ap (λ x. x .lower) (tabled (variable-count b) (omega arith)) ∙ figure-at-last accepted
 
   pub text-tabled : {h : Header} → h ≡ header b
       → head-text h (at-level cuts (h .variables) .lower) ++ cut-lines (at-level cuts) (suc (h .variables)) ≡ accepted-text b

@@ -2,17 +2,17 @@
 use mathlib.Core.List.{List, [], _∷_, _++_}
 use Prim.Native.Nat.{ℕ, zero, suc}
 use lib.ListN.{getD}
+use Rattle.bounds.specs.declared.Bounds.{Bounds}
+use Rattle.answer.specs.Answer.{Answer, refused, answer}
+use Rattle.answer.specs.declared.Refusal.{Refusal}
+use Rattle.answer.specs.declared.Refusal.the-variants.{Alone, At}
+use Rattle.buffer.specs.Text.{ascii, line}
 use Rattle.rule_file.specs.RuleFile.{variable-count}
-use Rattle.rule_file.specs.Answer.{Answer, refused, answer}
 use Rattle.rule_file.specs.Reader.{read-file}
 use Rattle.rule_file.specs.Accepted.{header}
 use Rattle.rule_file.specs.declared.Header.{Header}
-use Rattle.rule_file.specs.declared.Refusal.{Refusal}
-use Rattle.rule_file.specs.declared.Refusal.the-variants.{Alone, At}
 use Rattle.value.specs.Value.{figure-of}
-use Rattle.bounds.specs.Cut.{cut-of}
-use Rattle.bounds.specs.declared.Bounds.{Bounds}
-use Rattle.buffer.specs.Text.{ascii, line}
+use Rattle.value.specs.Cut.{cut-of}
 
 -- a refusal's number, and its place where it names one
 unfoldable pub refusal-line : Refusal → List ℕ

@@ -1,19 +1,19 @@
 // The text that the program prints for a rule file, byte for byte.
+use answer::Refusal;
 use bounds::Bounds;
 use buffer::put_line;
+use limits::LEVELS;
 use rule_file::Header;
 use rule_file::Reading;
-use rule_file::Refusal;
-use rule_file::masks::clause_masks;
+use rule_file::clause_masks;
 use rule_file::read;
-use search::LEVELS;
-use search::cuts_of;
+use solver::cuts_of;
 ghost use mathlib.Core.Path.{_≡_};
 ghost use Prim.Native.Nat.{_+_, _*_, _≤_, suc};
-ghost use lib.ListN.{length, take, drop};
-ghost use Rattle.io.specs.Counts.{Counts};
-ghost use Rattle.buffer.specs.Text.{Put};
-ghost use Rattle.rule_file.specs.Limits.{max-variables};
+ghost use lib.ListN.{length};
+ghost use Rattle.limits.specs.Limits.{max-variables};
+ghost use Rattle.buffer.specs.Text.{Put, Begins};
+ghost use lib.ListN.{length};
 ghost use Rattle.rule_file.specs.Accepted.{Accepted, header as header-of};
 ghost use Rattle.report.specs.Report.{refusal-line, cut-line, cut-lines, at-level, head-text, accepted-text, report-text};
 
@@ -89,10 +89,7 @@ fn put_accepted(rule: &[u8], header: Header, out: &mut [u8]) -> usize
 // Writes what the program prints for a rule file, whatever its bytes are, at the start of `out`, and answers its
 // length.
 pub fn report(rule: &[u8], out: &mut [u8; 4096]) -> usize
-    ensures within { λ r. ⌜ Counts r (now (out .exit)) ⌝ }
-    ensures length { λ r. ⌜ r ≡ length (report-text (now (rule .entry))) ⌝ }
-    ensures text { λ r. ⌜ take r (now (out .exit)) ≡ report-text (now (rule .entry)) ⌝ }
-    ensures rest { λ r. ⌜ drop r (now (out .exit)) ≡ drop r (now (out .entry)) ⌝ }
+    ensures text { λ r. ⌜ Begins (now (out .entry)) (report-text (now (rule .entry))) (now (out .exit)) r ⌝ }
     ensures unchanged { λ _. ⌜ now (rule .exit) ≡ now (rule .entry) ⌝ }
 {
     match read(rule) {

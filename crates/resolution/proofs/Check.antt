@@ -14,8 +14,7 @@ use borrow.Author.Tests.{eqb-true, eqb-false, eq-eqb, ltb-true, lt-ltb, leb-true
 use Rattle.formula.specs.Quantifier.{Quantifier}
 use Rattle.formula.proofs.OrderLaws.{equal-iff}
 use Rattle.formula.proofs.Membership.{and-iff, all-of-iff, some-of-iff, member-iff}
-use Rattle.resolution.specs.Resolution.{Annotated, Blocking, Resolves, Resolvent, Line, blocking, resolvent, derived, original-clause, line-at, Names, clause, line, Follows, by-R2, by-R3}
-use Rattle.resolution.specs.Resolution.{is-resolvent, some-if, lookup, require, judge-resolvent, judge, first-refusal, judge-from, judge-lines, empty-value, closing-value}
+use Rattle.resolution.specs.Resolution.{Annotated, Blocking, Resolves, Resolvent, Line, blocking, resolvent, derived, original-clause, line-at, Names, clause, line, Follows, by-R2, by-R3, is-resolvent, some-if, lookup, require, judge-resolvent, judge, first-refusal, judge-from, judge-lines, empty-value, closing-value}
 
 require-iff : (b : Bool) (k : ℕ) (rest : Option ℕ) → (require b k rest ≡ none) ↔ ((b ≡ true) × (rest ≡ none))
 unfolding require

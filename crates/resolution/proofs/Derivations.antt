@@ -12,8 +12,7 @@ use Rattle.formula.specs.Formula.{some-of, repeats, unordered}
 use Rattle.formula.specs.Quantifier.{Quantifier}
 use Rattle.formula.proofs.OrderLaws.{one-of-each-iff, one-of-a-variable, ordered-one-of-each}
 use Rattle.formula.proofs.Membership.{none-of, getD-in}
-use Rattle.resolution.specs.Resolution.{Annotated, NonTautological, Derivable, R1, R2, R3, Line, derived, line-at, Names, clause, line}
-use Rattle.resolution.specs.Resolution.{Follows, by-R2, by-R3, lookup, judge, judge-lines}
+use Rattle.resolution.specs.Resolution.{Annotated, NonTautological, Derivable, R1, R2, R3, Line, derived, line-at, Names, clause, line, Follows, by-R2, by-R3, lookup, judge, judge-lines}
 use Rattle.resolution.specs.Claims.{Sound, ClosesWithFigure}
 use Rattle.resolution.proofs.Check.{lookup-names, judge-iff, judge-lines-iff, closing-iff}
 use Rattle.resolution.proofs.Soundness.{derivable-sound, derivable-empty}

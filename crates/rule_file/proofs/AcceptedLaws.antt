@@ -1,46 +1,25 @@
 -- Within any limits a file is answered exactly where it is accepted, and then by its header; and what a caller of
 -- `read` knows by the case of its answer. Assumes nothing.
-use mathlib.Core.Path.{_≡_, refl, sym, ap, _∙_}
-use mathlib.Core.Bool.{Bool, true, false}
+use mathlib.Core.Path.{_≡_, sym, ap, _∙_}
 use mathlib.Core.List.{List}
-use mathlib.Core.Option.{Option, none, some}
 use Prim.Native.Nat.{ℕ}
-use native.Mathlib.Omega.{arith}
 use Rattle.formula.specs.Formula.{repeats, unordered}
-use Rattle.rule_file.specs.Limits.{rule-trailer, full-limits, stored-limits}
-use Rattle.rule_file.specs.Walk.{first}
+use Rattle.limits.specs.Limits.{rule-trailer}
+use Rattle.answer.specs.Answer.{Answer, refused, answer, and-then}
+use Rattle.answer.specs.declared.Refusal.{Refusal}
+use Rattle.answer.proofs.AnswerLaws.{same-answer, passed, passed-at}
+use Rattle.words.specs.Walk.{first}
+use Rattle.words.proofs.WalkLaws.{first-none, none-first-place}
+use Rattle.words.proofs.WordsLaws.{right-length}
+use Rattle.rule_file.specs.ReaderLimits.{full-limits, stored-limits}
 use Rattle.rule_file.specs.RuleFile.{clauses}
-use Rattle.rule_file.specs.Answer.{Answer, refused, answer, refuse-if, refuse-at, and-then}
 use Rattle.rule_file.specs.Reader.{reading, read-file, read-within, read-from-3, read-from-5, read-from-6, read-from-8, asked}
 use Rattle.rule_file.specs.Accepted.{AcceptedWithin, Accepted, header}
-use Rattle.rule_file.specs.declared.limits.Limits.{Limits}
+use Rattle.rule_file.specs.declared.Limits.{Limits}
 use Rattle.rule_file.specs.declared.Header.{Header}
-use Rattle.rule_file.specs.declared.Refusal.{Refusal}
 use Rattle.rule_file.specs.declared.Reading.{Reading}
 use Rattle.rule_file.specs.declared.Reading.the-variants as reading-variants
-use Rattle.rule_file.proofs.WalkLaws.{first-none, none-first-place}
-use Rattle.rule_file.proofs.WordsLaws.{right-length}
 use Rattle.rule_file.proofs.ReaderLaws.{check-2, check-3, check-4, check-9, asked-once, not-asked}
-
--- an answer is no refusal
-pub answer-no-refusal : {A : Type 0} (r : Refusal) (x : A) → refused r ≡ answer x → ⊥
-answer-no-refusal r x e = let z : _≡_ {A = ℕ} 0 1 = cc in omega arith
-
-pub same-answer : {A : Type 0} (x y : A) → answer x ≡ answer y → x ≡ y
-same-answer x y e = cc
-
--- it has passed the check at hand
-pub passed : {A : Type 0} (t : Bool) (k : ℕ) (rest : Answer A) (x : A) → refuse-if t k rest ≡ answer x → (t ≡ false) × (rest ≡ answer x)
-passed false k rest x e = (refl, e)
-passed true k rest x e = absurd (answer-no-refusal _ x e)
-
-pub passed-at : {A : Type 0} (o : Option ℕ) (k : ℕ) (rest : Answer A) (x : A) → refuse-at o k rest ≡ answer x → (o ≡ none) × (rest ≡ answer x)
-passed-at none k rest x e = (refl, e)
-passed-at (some i) k rest x e = absurd (answer-no-refusal _ x e)
-
-pub passed-then : {A B : Type 0} (r : Answer A) (f : A → Answer B) (x : B) → and-then r f ≡ answer x → (a : A) × (r ≡ answer a) × (f a ≡ answer x)
-passed-then (refused r) f x e = absurd (answer-no-refusal r x e)
-passed-then (answer a) f x e = (a, refl, e)
 
 pub answered-within : (limits : Limits) (b : List ℕ) (h : Header) → read-within limits b ≡ answer h → AcceptedWithin limits b × (h ≡ header b)
 unfolding read-within read-from-3 read-from-5 read-from-6 read-from-8

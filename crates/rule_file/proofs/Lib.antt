@@ -1,9 +1,6 @@
--- Laws of the file's definitions, which the proofs of this crate and of those above it cite.
-pub mod WalkLaws
-pub mod WordsLaws
-pub mod ClauseLaws
-pub mod PrefixLaws
+-- Laws of the reader's definitions and of what an accepted file holds, which the proofs of this crate and of those
+-- above it cite.
 pub mod ReaderLaws
-pub mod StoredLaws
 pub mod AcceptedLaws
 pub mod TwoReaders
+pub mod FileLaws

@@ -1,33 +1,33 @@
 -- The reader's answer, one check at a time: checks 1 to 4 and 9 with the fact that each decides, then what checks 5 to
 -- 8 speak of by the counts that a Trailer holds, and 6, 7 and 23 at once. What the checks over clauses and variables
 -- say is in ClauseLaws and PrefixLaws. Assumes nothing.
-use mathlib.Core.Path.{_≡_, refl, sym, ap, _∙_, subst}
+use mathlib.Core.Path.{_≡_, refl, ap, subst}
 use mathlib.Core.Bool.{Bool, true, false}
 use mathlib.Core.List.{List, [], _∷_}
-use mathlib.Core.Option.{Option, none, some}
+use mathlib.Core.Option.{none}
 use Prim.Native.Nat.{ℕ, _+_, _-_, _*_, _≤_}
-use native.Mathlib.Omega.{arith}
 use borrow.Author.Tests.{le-ltb, ltb-false}
 use Rattle.formula.specs.Formula.{some-of, out-of-range, repeats, unordered, ill-formed}
 use Rattle.formula.specs.Quantifier.{denominator}
 use Rattle.formula.proofs.SomeLaws.{or-false, none-implied}
 use Rattle.formula.proofs.OrderLaws.{ordered-no-repeats}
-use Rattle.rule_file.specs.Limits.{max-clauses, max-whole}
-use Rattle.rule_file.specs.Walk.{first}
-use Rattle.rule_file.specs.Words.{word-count, stated-count}
-use Rattle.rule_file.specs.RuleFile.{clause-count, variable-count, prefix-start, clauses, clauses-from, prefix, prefix-from, whole}
-use Rattle.rule_file.specs.Answer.{Answer, refused}
-use Rattle.rule_file.specs.Checks.{place, clause-fails, Trailer, TrailerRead}
-use Rattle.rule_file.specs.declared.clauses.ClauseCheck.the-variants.{OutOfRange, Repeats, IllFormed}
+use Rattle.limits.specs.Limits.{max-clauses, max-whole}
+use Rattle.answer.specs.Answer.{Answer, refused}
+use Rattle.answer.specs.declared.Refusal.{Refusal}
+use Rattle.words.specs.Walk.{first}
+use Rattle.words.specs.Words.{word-count, stated-count}
+use Rattle.words.proofs.WalkLaws.{first-none, none-first-place, first-either}
+use Rattle.words.proofs.WordsLaws.{Decides, differs}
+use Rattle.prefix_words.specs.Prefix.{prefix-from, malformed}
+use Rattle.clause_words.specs.Clauses.{clauses-from, walk-clauses}
+use Rattle.clause_words.specs.ClauseChecks.{clause-fails}
+use Rattle.clause_words.specs.declared.ClauseCheck.the-variants.{OutOfRange, Repeats, IllFormed}
+use Rattle.rule_file.specs.RuleFile.{clause-count, variable-count, prefix-start, clauses, prefix, whole}
+use Rattle.rule_file.specs.Checks.{Trailer, TrailerRead}
 use Rattle.rule_file.specs.declared.Header.{Header}
-use Rattle.rule_file.specs.declared.Refusal.{Refusal}
 use Rattle.rule_file.specs.declared.TrailerReading.{TrailerReading}
 use Rattle.rule_file.specs.declared.TrailerReading.the-variants as trailer-reading
-use Rattle.rule_file.specs.declared.Found.{Found}
-use Rattle.rule_file.specs.declared.Found.the-variants as found-variants
-use Rattle.rule_file.specs.Reader.{wrong-count, too-many, wrong-prefix, too-large, walk-clauses, malformed, asked, read-from-5}
-use Rattle.rule_file.proofs.WalkLaws.{first-none, none-first-place, first-either}
-use Rattle.rule_file.proofs.WordsLaws.{Decides, differs}
+use Rattle.rule_file.specs.Reader.{wrong-count, too-many, wrong-prefix, too-large, asked, read-from-5}
 
 pub check-2 : (b : List ℕ) → Decides (wrong-count b) (stated-count b ≡ word-count b)
 unfolding wrong-count
@@ -107,21 +107,6 @@ module _ (n : ℕ) (φ : List (List ℕ)) where
   pub ill-formed-unordered : first (out-of-range n) φ ≡ none → first (ill-formed n) φ ≡ first unordered φ
   unfolding ill-formed
   ill-formed-unordered e = first-either (out-of-range n) unordered φ (first-none (out-of-range n) φ e)
-
--- what a search found, for a caller that goes by the case of it
-module _ {o : Option ℕ} {r : Found} (e : place r ≡ o) where
-  pub found-nothing : r ≡ found-variants.Nothing → o ≡ none
-  found-nothing c = sym e ∙ ap place c
-
-  pub found-at : {i : ℕ} → r ≡ found-variants.At i → o ≡ some i
-  found-at c = sym e ∙ ap place c
-
--- 7 is not one of the other checks
-pub range-not-repeats : OutOfRange ≡ Repeats → ⊥
-range-not-repeats e = let z : _≡_ {A = ℕ} 0 1 = cc in omega arith
-
-pub ill-formed-not-repeats : IllFormed ≡ Repeats → ⊥
-ill-formed-not-repeats e = let z : _≡_ {A = ℕ} 0 1 = cc in omega arith
 
 -- what checks 1 to 4 leave, for a caller that goes by the case of it
 module _ (b : List ℕ) (ordered : Bool) (whole : Answer Header) {r : TrailerReading} (e : TrailerRead b ordered whole r) where

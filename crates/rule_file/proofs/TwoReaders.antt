@@ -9,17 +9,18 @@ use native.Mathlib.Nat.{le-trans, lt-of-not-le, not-le-of-lt}
 use native.Mathlib.Decide.{decLe}
 use lib.Dec.{lit≤}
 use lib.ListN.{length}
-use Rattle.rule_file.specs.Limits.{rule-trailer, full-limits, small-limits}
-use Rattle.rule_file.specs.Words.{wrong-length}
+use Rattle.limits.specs.Limits.{rule-trailer}
+use Rattle.answer.specs.Answer.{refused, answer}
+use Rattle.answer.specs.declared.Refusal.the-variants.{Alone}
+use Rattle.words.specs.Words.{wrong-length}
+use Rattle.words.proofs.WordsLaws.{fails, decides-same, right-length}
+use Rattle.rule_file.specs.ReaderLimits.{full-limits, small-limits}
 use Rattle.rule_file.specs.RuleFile.{variable-count}
-use Rattle.rule_file.specs.Answer.{refused, answer}
 use Rattle.rule_file.specs.Reader.{wrong-count, too-many, read-from-3, read-within, read-file, read-small}
 use Rattle.rule_file.specs.Accepted.{AcceptedWithin}
 use Rattle.rule_file.specs.TwoReaders.{Tighter, WithinLimits, Compared, agree, over-bytes, over-variables}
-use Rattle.rule_file.specs.declared.limits.Limits.{Limits}
+use Rattle.rule_file.specs.declared.Limits.{Limits}
 use Rattle.rule_file.specs.declared.Header.{Header}
-use Rattle.rule_file.specs.declared.Refusal.the-variants.{Alone}
-use Rattle.rule_file.proofs.WordsLaws.{fails, decides-same, right-length}
 use Rattle.rule_file.proofs.ReaderLaws.{check-2, check-3}
 use Rattle.rule_file.proofs.AcceptedLaws.{answered-within}
 

@@ -4,21 +4,17 @@ use mathlib.Core.Path.{_≡_}
 use mathlib.Core.Bool.{false}
 use mathlib.Core.List.{List}
 use mathlib.Core.Option.{none}
-use Prim.Native.Nat.{ℕ, _+_, _-_, _*_, _%_, _≤_}
-use lib.ListN.{length}
+use Prim.Native.Nat.{ℕ, _+_, _-_, _*_, _≤_}
 use Rattle.formula.specs.Formula.{some-of, out-of-range, unordered}
-use Rattle.rule_file.specs.Limits.{rule-trailer, max-clauses, max-whole, full-limits}
-use Rattle.rule_file.specs.Words.{word-count, stated-count}
+use Rattle.limits.specs.Limits.{rule-trailer, max-clauses, max-whole}
+use Rattle.words.specs.Words.{word-count, stated-count, Length}
+use Rattle.prefix_words.specs.Prefix.{malformed}
+use Rattle.clause_words.specs.Clauses.{walk-clauses}
+use Rattle.rule_file.specs.ReaderLimits.{full-limits}
 use Rattle.rule_file.specs.RuleFile.{clause-count, variable-count, prefix-start, clauses, prefix, whole}
-use Rattle.rule_file.specs.Reader.{walk-clauses, malformed, asked}
-use Rattle.rule_file.specs.declared.limits.Limits.{Limits}
+use Rattle.rule_file.specs.Reader.{asked}
+use Rattle.rule_file.specs.declared.Limits.{Limits}
 use Rattle.rule_file.specs.declared.Header.{Header}
-
--- a length that is not wrong-length
-pub record Length (least most : ℕ) (b : List ℕ) : Type 0 where
-  pub whole-words : length b % 4 ≡ 0
-  pub at-least : least ≤ length b
-  pub at-most : length b ≤ most
 
 -- 7 leaves nothing besides: where variables rise, none stands twice. Nothing is left of 7 and 23 where they are not
 -- asked

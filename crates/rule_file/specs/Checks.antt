@@ -2,33 +2,15 @@
 use mathlib.Core.Path.{_≡_}
 use mathlib.Core.Bool.{Bool}
 use mathlib.Core.List.{List}
-use mathlib.Core.Option.{Option, none, some}
 use Prim.Native.Nat.{ℕ, _+_, _*_, _≤_}
-use Rattle.formula.specs.Formula.{out-of-range, repeats, ill-formed}
-use Rattle.rule_file.specs.Limits.{max-variables, max-clauses}
-use Rattle.rule_file.specs.Words.{word-count}
+use Rattle.limits.specs.Limits.{max-variables, max-clauses}
+use Rattle.answer.specs.Answer.{Answer, refused}
+use Rattle.words.specs.Words.{word-count}
 use Rattle.rule_file.specs.RuleFile.{clause-count, variable-count, prefix-start}
-use Rattle.rule_file.specs.Answer.{Answer, refused}
 use Rattle.rule_file.specs.Reader.{read-from-5}
-use Rattle.rule_file.specs.declared.limits.Limits.{Limits}
 use Rattle.rule_file.specs.declared.Header.{Header}
 use Rattle.rule_file.specs.declared.TrailerReading.{TrailerReading}
 use Rattle.rule_file.specs.declared.TrailerReading.the-variants as trailer-reading
-use Rattle.rule_file.specs.declared.clauses.ClauseCheck.{ClauseCheck}
-use Rattle.rule_file.specs.declared.clauses.ClauseCheck.the-variants.{OutOfRange, Repeats, IllFormed}
-use Rattle.rule_file.specs.declared.Found.{Found}
-use Rattle.rule_file.specs.declared.Found.the-variants.{Nothing, At}
-
--- the place that a search found
-abbrev pub place : Found → Option ℕ
-place Nothing = none
-place (At i) = some i
-
--- whether a check fails on a clause over n variables
-unfoldable pub clause-fails : ℕ → ClauseCheck → List ℕ → Bool
-clause-fails n OutOfRange = out-of-range n
-clause-fails n Repeats = repeats
-clause-fails n IllFormed = ill-formed n
 
 -- checks 1 to 4 are passed: the counts are the trailer's, and the prefix ends where the trailer begins
 pub record Trailer (b : List ℕ) (m n start : ℕ) : Type 0 where

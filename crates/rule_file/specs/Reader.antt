@@ -3,18 +3,19 @@
 -- for any limits, and three readers: the full one, the small one, and the one of stored files, which leaves out 7 and
 -- 23. Assumes nothing.
 use Prim.Native.Nat.{ℕ, _+_, _-_, _*_}
-use mathlib.Core.Bool.{Bool, false, not, _&&_, _||_}
+use mathlib.Core.Bool.{Bool, not, _&&_, _||_}
 use mathlib.Core.List.{List}
-use mathlib.Core.Option.{Option}
-use lib.Dec.{leb, ltb, eqb}
+use lib.Dec.{ltb, eqb}
 use Rattle.formula.specs.Formula.{out-of-range, repeats, unordered}
-use Rattle.formula.specs.Quantifier.{Quantifier, existential, randomized}
-use Rattle.rule_file.specs.Limits.{rule-trailer, max-clauses, max-weight, max-whole, full-limits, small-limits, stored-limits}
-use Rattle.rule_file.specs.Walk.{first, walk}
-use Rattle.rule_file.specs.Words.{word, word-count, wrong-length, stated-count}
-use Rattle.rule_file.specs.RuleFile.{clause-count, variable-count, prefix-start, after-clause, clauses, prefix, whole}
-use Rattle.rule_file.specs.Answer.{Answer, refused, answer, refuse-if, refuse-at}
-use Rattle.rule_file.specs.declared.limits.Limits.{Limits}
+use Rattle.limits.specs.Limits.{rule-trailer, max-clauses, max-whole}
+use Rattle.answer.specs.Answer.{Answer, refused, answer, refuse-if, refuse-at}
+use Rattle.words.specs.Walk.{first}
+use Rattle.words.specs.Words.{word-count, wrong-length, stated-count}
+use Rattle.prefix_words.specs.Prefix.{malformed}
+use Rattle.clause_words.specs.Clauses.{walk-clauses}
+use Rattle.rule_file.specs.ReaderLimits.{full-limits, small-limits, stored-limits}
+use Rattle.rule_file.specs.RuleFile.{clause-count, variable-count, prefix-start, clauses, prefix, whole}
+use Rattle.rule_file.specs.declared.Limits.{Limits}
 use Rattle.rule_file.specs.declared.Header.{Header}
 use Rattle.rule_file.specs.declared.Reading.{Reading}
 use Rattle.rule_file.specs.declared.Reading.the-variants.{Refused, Accepted}
@@ -31,21 +32,8 @@ too-many most b = ltb most (variable-count b) || ltb max-clauses (clause-count b
 unfoldable pub wrong-prefix : List ℕ → Bool
 wrong-prefix b = not (eqb (prefix-start b + 2 * variable-count b) (word-count b - 4))
 
--- whether the clause at word i stands before the word `end` and has at most n literals
-unfoldable pub clause-fits : List ℕ → ℕ → ℕ → ℕ → Bool
-clause-fits b n end i = ltb i end && leb (after-clause b i) end && leb (word b i) n
-
--- 5: the first of m clauses that does not fit before the word `end`; or m, where only the walk's end is wrong
-abbrev pub walk-clauses : List ℕ → ℕ → ℕ → ℕ → ℕ → Option ℕ
-walk-clauses b n end = walk (after-clause b) (clause-fits b n end) end
-
--- 6 is out-of-range, a literal of 2n or more; 7 is repeats, a variable twice; 23 is unordered, variables that do not
--- rise. 8: a weight over 65,535, or one weight 0 and the other not
-unfoldable pub malformed : Quantifier → Bool
-malformed existential = false
-malformed (randomized s t) = eqb s 0 || eqb t 0 || ltb max-weight s || ltb max-weight t
-
--- 9: the whole is over 2^60
+-- 5 is walk-clauses; 6 is out-of-range, a literal of 2n or more; 7 is repeats, a variable twice; 23 is unordered,
+-- variables that do not rise; 8 is malformed. 9: the whole is over 2^60
 unfoldable pub too-large : List ℕ → Bool
 too-large b = ltb max-whole (whole b)
 

@@ -3,14 +3,13 @@ use mathlib.Core.Path.{_≡_}
 use mathlib.Core.List.{List}
 use Prim.Native.Nat.{ℕ, _≤_, _<_}
 use lib.ListN.{length}
-use Rattle.rule_file.specs.Limits.{rule-trailer}
-use Rattle.rule_file.specs.Words.{word-count, stated-count}
+use Rattle.limits.specs.Limits.{rule-trailer}
+use Rattle.answer.specs.Answer.{Answer, refused}
+use Rattle.answer.specs.declared.Refusal.the-variants.{Alone}
+use Rattle.words.specs.Words.{word-count, stated-count, Length}
 use Rattle.rule_file.specs.RuleFile.{variable-count}
-use Rattle.rule_file.specs.Answer.{Answer, refused}
-use Rattle.rule_file.specs.Accepted.{Length}
-use Rattle.rule_file.specs.declared.limits.Limits.{Limits}
+use Rattle.rule_file.specs.declared.Limits.{Limits}
 use Rattle.rule_file.specs.declared.Header.{Header}
-use Rattle.rule_file.specs.declared.Refusal.the-variants.{Alone}
 
 -- no limit of k is over that of l, and they ask for order alike
 pub record Tighter (k l : Limits) : Type 0 where

@@ -9,11 +9,13 @@
 // repaired file, or nothing, is what was written. The values of a job list are the number of its lines, and of each
 // line the length of the name and the limits, or `other`. A tally's line is the verdict's, a refusal's too, and the
 // counts after it.
-use bounds::Cutting;
+use answer::Refusal;
 use clause_reader::cursor::Step;
 use clause_reader::nth_clause;
 use derivation::Checking;
-use derivation::check;
+use derivation_check::check;
+use derivation_writer::Deriving;
+use derivation_writer::derive;
 use job_list::Listing;
 use job_list::Parsing;
 use job_list::line_at;
@@ -21,28 +23,27 @@ use job_list::parse;
 use job_list::read_list;
 use libc::STDIN_FILENO;
 use libc::STDOUT_FILENO;
+use limits::MAX_BYTES;
+use limits::MAX_CLAUSES;
 use repair::Repairing;
 use repair::repair;
 use rule_file::Reading;
-use rule_file::Refusal;
-use rule_file::limits::MAX_BYTES;
-use rule_file::limits::MAX_CLAUSES;
 use rule_file::read;
 use rule_file::read_small;
-use rule_file::words::part;
-use rule_file::words::word;
-use search::cut;
-use search::figure;
-use search::verdict;
+use solver::cut;
+use solver::figure;
+use solver::verdict;
 use std::num::wrapping_add_usize;
 use tally::Tally;
 use tally::absorbed;
 use tally::begin;
 use tally::kind_of;
+use value::Cutting;
 use value::Figuring;
 use value::Judging;
-use writer::Deriving;
-use writer::derive;
+use value::thresholds::Verdict;
+use words::part;
+use words::word;
 ghost use Prim.Native.Nat.{_<_};
 ghost use Rattle.io.specs.Counts.{Counts};
 
@@ -103,12 +104,14 @@ fn print_figure(rule: &[u8]) {
 fn print_verdict(result: Judging) {
     match result {
         Judging::Refused(refusal) => print_refusal(refusal),
-        Judging::Above => print(b"0 above"),
-        Judging::Below => print(b"0 below"),
-        Judging::Within(figure) => {
-            print(b"0 within");
-            print_value(figure);
-        }
+        Judging::Answered(verdict) => match verdict {
+            Verdict::Above => print(b"0 above"),
+            Verdict::Below => print(b"0 below"),
+            Verdict::Within(figure) => {
+                print(b"0 within");
+                print_value(figure);
+            }
+        },
     }
 }
 

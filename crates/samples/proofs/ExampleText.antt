@@ -4,12 +4,13 @@ use mathlib.Core.Path.{_≡_, refl}
 use Rattle.formula.specs.Formula.{literal-status, clause-status, formula-status, some-of, all-of, out-of-range, repeats, unordered, unset-literals, is-unit, clash, node-status}
 use Rattle.formula.specs.Quantifier.{denominator}
 use Rattle.formula.specs.Tree.{value, evaluate}
-use Rattle.buffer.specs.Bytes.{word-bytes, bytes-of}
 use Rattle.buffer.specs.Text.{ascii, decimal-by, decimal, after-blanks, line}
-use Rattle.rule_file.specs.Walk.{elements, first, walk}
-use Rattle.rule_file.specs.Words.{word, wrong-length}
-use Rattle.rule_file.specs.RuleFile.{quantifier}
-use Rattle.rule_file.specs.Reader.{wrong-count, too-many, wrong-prefix, clause-fits, malformed, too-large, read-from-8, read-from-6, read-from-5, read-from-3, read-within, read-file}
+use Rattle.words.specs.Bytes.{word-bytes, bytes-of}
+use Rattle.words.specs.Walk.{elements, first, walk}
+use Rattle.words.specs.Words.{word, wrong-length}
+use Rattle.prefix_words.specs.Prefix.{quantifier, malformed}
+use Rattle.clause_words.specs.Clauses.{clause-fits}
+use Rattle.rule_file.specs.Reader.{wrong-count, too-many, wrong-prefix, too-large, read-from-8, read-from-6, read-from-5, read-from-3, read-within, read-file}
 use Rattle.report.specs.Report.{refusal-line, cut-line, cut-lines, head-text, accepted-text, report-text}
 use Rattle.samples.specs.Samples.{example, variable-twice, not-rising}
 

@@ -4,18 +4,20 @@
 use mathlib.Core.List.{List, [], _∷_, _++_}
 use Prim.Native.Nat.{ℕ, _+_, _*_}
 use lib.ListN.{length, replicate}
-use Rattle.buffer.specs.Bytes.{bytes-of}
-use Rattle.rule_file.specs.Answer.{Answer, refused, answer}
+use Rattle.bounds.specs.declared.Bounds.{Bounds}
+use Rattle.answer.specs.Answer.{Answer, refused, answer}
+use Rattle.answer.specs.declared.Refusal.the-variants.{Alone, At}
+use Rattle.words.specs.Bytes.{bytes-of}
 use Rattle.rule_file.specs.Reader.{read-file, read-small}
 use Rattle.rule_file.specs.declared.Header.{Header}
-use Rattle.rule_file.specs.declared.Refusal.the-variants.{Alone, At}
 use Rattle.value.specs.declared.Ratio.{Ratio}
-use Rattle.value.specs.Value.{figure-file, Verdict, above, below, within, verdict-file}
-use Rattle.bounds.specs.declared.Bounds.{Bounds}
-use Rattle.bounds.specs.Cut.{cut-file}
+use Rattle.value.specs.Value.{figure-file, verdict-file}
+use Rattle.value.specs.declared.thresholds.Verdict.{Verdict}
+use Rattle.value.specs.declared.thresholds.Verdict.the-variants.{Above, Below, Within}
+use Rattle.value.specs.Cut.{cut-file}
 use Rattle.derivation.specs.declared.Closing.{Closing}
 use Rattle.derivation.specs.Check.{check-file}
-use Rattle.writing.specs.Derive.{derive-file}
+use Rattle.written_derivation.specs.Derive.{derive-file}
 use Rattle.repair.specs.declared.Repairs.{Repairs}
 use Rattle.repair.specs.Repair.{repair-file, repair-answer}
 
@@ -136,9 +138,9 @@ samples =
     -- P7: the example
     sample (figure example) (out-of 12 50) ∷
     -- P8 to P10: its verdicts
-    sample (verdict example 12 12) (judged (answer (within 12))) ∷
-    sample (verdict example 13 50) (judged (answer below)) ∷
-    sample (verdict example 0 11) (judged (answer above)) ∷
+    sample (verdict example 12 12) (judged (answer (Within 12))) ∷
+    sample (verdict example 13 50) (judged (answer Below)) ∷
+    sample (verdict example 0 11) (judged (answer Above)) ∷
     -- P11: its cut at level 2
     sample (cut example 2) (between 0 40 40) ∷
     -- P12: its derivation

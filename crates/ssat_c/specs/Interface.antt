@@ -1,5 +1,5 @@
 -- The four numbers that are stored for an answer of the readers, of the check, of the writer and of the repair;
--- c_answer/specs/CAnswer has those of figure, verdict and cut. Assumes nothing.
+-- c_convention/specs/Convention has those of figure, verdict and cut. Assumes nothing.
 use mathlib.Core.List.{List, [], _∷_}
 use Prim.Native.Nat.{ℕ}
 use Rattle.rule_file.specs.declared.Header.{Header}

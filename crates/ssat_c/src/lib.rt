@@ -1,52 +1,87 @@
 // The operations for programs in other languages: numbers in, a number out, and the values in an array or a tally that
 // the caller lends. include/ssat.h declares them.
-use c_answer::fill;
-use c_answer::hand_cut;
-use c_answer::hand_figure;
-use c_answer::hand_verdict;
-use c_answer::refuse;
+use c_convention::Handing;
+use c_convention::cut_values;
+use c_convention::figure_values;
+use c_convention::hand;
+use c_convention::verdict_values;
 use derivation::Checking;
-use derivation::check;
+use derivation_check::check;
+use derivation_writer::Deriving;
+use derivation_writer::derive;
 use repair::Repairing;
 use repair::repair;
 use rule_file::Reading;
 use rule_file::read;
 use rule_file::read_small;
-use search::cut;
-use search::figure;
-use search::verdict;
+use solver::cut;
+use solver::figure;
+use solver::verdict;
 use tally::Kind;
 use tally::Tally;
 use tally::absorb;
 use tally::kind_of;
-use writer::Deriving;
-use writer::derive;
 ghost use mathlib.Core.Path.{_≡_};
 ghost use lib.ListN.{length};
-ghost use Rattle.rule_file.specs.Answer.{buffer-after};
+ghost use Rattle.answer.specs.Answer.{buffer-after};
 ghost use Rattle.rule_file.specs.Reader.{reading, read-file, read-small};
 ghost use Rattle.value.specs.Value.{figure-file, verdict-file};
-ghost use Rattle.bounds.specs.Cut.{cut-file};
-ghost use Rattle.derivation.specs.Check.{check-file};
-ghost use Rattle.writing.specs.Derive.{derive-file, length-of};
-ghost use Rattle.repair.specs.Repair.{repair-file, repair-answer};
+ghost use Rattle.value.specs.Cut.{cut-file};
+ghost use Rattle.derivation.specs.Check.{check-file, checking};
+ghost use Rattle.written_derivation.specs.Derive.{derive-file, length-of};
+ghost use Rattle.repair.specs.Repair.{repairing, repair-file, repair-answer};
 ghost use Rattle.tally.specs.Tally.{kind-of, step};
-ghost use Rattle.c_answer.specs.CAnswer.{code, filled, ratio-values, verdict-values, bounds-values};
+ghost use Rattle.derivation_writer.specs.Answer.{derive-answer};
+ghost use Rattle.c_convention.specs.Convention.{code, filled, ratio-values, verdict-values, bounds-values};
+ghost use Rattle.c_convention.specs.HandedOver.{in-numbers, handing};
 ghost use Rattle.ssat_c.specs.Interface.{header-values, closing-values, length-values, repair-values};
 
 // n, m, prefix start, whole, of either reader.
-fn hand_over(out: &mut [u64; 4], result: Reading) -> u32
-    ensures { λ r. ⌜ r ≡ code (reading result) ⌝ }
-    ensures { λ _. ⌜ now (out .exit) ≡ filled header-values (reading result) (now (out .entry)) ⌝ }
+fn header_values(result: Reading) -> Handing
+    ensures { λ r. ⌜ handing r ≡ in-numbers header-values (reading result) ⌝ }
 {
     match result {
-        Reading::Refused(refusal) => refuse(out, refusal),
-        Reading::Accepted(h) => fill(
-            out,
+        Reading::Refused(refusal) => Handing::Refused(refusal),
+        Reading::Accepted(h) => Handing::Values(
             h.variables as u64,
             h.clauses as u64,
             h.prefix as u64,
             h.whole,
+        ),
+    }
+}
+
+// Closing value, whole.
+fn closing_values(result: Checking) -> Handing
+    ensures { λ r. ⌜ handing r ≡ in-numbers closing-values (checking result) ⌝ }
+{
+    match result {
+        Checking::Refused(refusal) => Handing::Refused(refusal),
+        Checking::Accepted(x) => Handing::Values(x.value, x.whole, 0, 0),
+    }
+}
+
+// The derivation's length in bytes.
+fn length_values(result: Deriving) -> Handing
+    ensures { λ r. ⌜ handing r ≡ in-numbers length-values (derive-answer result) ⌝ }
+{
+    match result {
+        Deriving::Refused(refusal) => Handing::Refused(refusal),
+        Deriving::Answered(length) => Handing::Values(length as u64, 0, 0, 0),
+    }
+}
+
+// The repaired file's length in bytes, clauses dropped, literals dropped, clauses reordered.
+fn repair_values(result: Repairing) -> Handing
+    ensures { λ r. ⌜ handing r ≡ in-numbers repair-values (repairing result) ⌝ }
+{
+    match result {
+        Repairing::Refused(refusal) => Handing::Refused(refusal),
+        Repairing::Repaired(x) => Handing::Values(
+            x.bytes as u64,
+            x.clauses as u64,
+            x.literals as u64,
+            x.reordered as u64,
         ),
     }
 }
@@ -57,7 +92,7 @@ pub extern "C" fn ssat_read(rule: &[u8], out: &mut [u64; 4]) -> u32
     ensures stored { λ _. ⌜ now (out .exit) ≡ filled header-values (read-file (now (rule .entry))) (now (out .entry)) ⌝ }
     ensures unchanged { λ _. ⌜ now (rule .exit) ≡ now (rule .entry) ⌝ }
 {
-    hand_over(out, read(rule))
+    hand(out, header_values(read(rule)))
 }
 
 // The same by the small reader.
@@ -67,7 +102,7 @@ pub extern "C" fn ssat_read_small(rule: &[u8], out: &mut [u64; 4]) -> u32
     ensures stored { λ _. ⌜ now (out .exit) ≡ filled header-values (read-small (now (rule .entry))) (now (out .entry)) ⌝ }
     ensures unchanged { λ _. ⌜ now (rule .exit) ≡ now (rule .entry) ⌝ }
 {
-    hand_over(out, read_small(rule))
+    hand(out, header_values(read_small(rule)))
 }
 
 #[no_mangle]
@@ -76,7 +111,7 @@ pub extern "C" fn ssat_figure(rule: &[u8], out: &mut [u64; 4]) -> u32
     ensures stored { λ _. ⌜ now (out .exit) ≡ filled ratio-values (figure-file (now (rule .entry))) (now (out .entry)) ⌝ }
     ensures unchanged { λ _. ⌜ now (rule .exit) ≡ now (rule .entry) ⌝ }
 {
-    hand_figure(out, figure(rule))
+    hand(out, figure_values(figure(rule)))
 }
 
 #[no_mangle]
@@ -85,7 +120,7 @@ pub extern "C" fn ssat_verdict(rule: &[u8], lo: u64, hi: u64, out: &mut [u64; 4]
     ensures stored { λ _. ⌜ now (out .exit) ≡ filled verdict-values (verdict-file (now (rule .entry)) lo hi) (now (out .entry)) ⌝ }
     ensures unchanged { λ _. ⌜ now (rule .exit) ≡ now (rule .entry) ⌝ }
 {
-    hand_verdict(out, verdict(rule, lo, hi))
+    hand(out, verdict_values(verdict(rule, lo, hi)))
 }
 
 // The number that ssat_verdict returns, and the kind of the result.
@@ -100,7 +135,7 @@ fn judge(rule: &[u8], lo: u64, hi: u64, out: &mut [u64; 4]) -> Judged
 {
     let result = verdict(rule, lo, hi);
     Judged {
-        number: hand_verdict(out, result),
+        number: hand(out, verdict_values(result)),
         kind: kind_of(result),
     }
 }
@@ -130,10 +165,9 @@ pub extern "C" fn ssat_cut(rule: &[u8], level: u64, out: &mut [u64; 4]) -> u32
     ensures stored { λ _. ⌜ now (out .exit) ≡ filled bounds-values (cut-file (now (rule .entry)) level) (now (out .entry)) ⌝ }
     ensures unchanged { λ _. ⌜ now (rule .exit) ≡ now (rule .entry) ⌝ }
 {
-    hand_cut(out, cut(rule, level))
+    hand(out, cut_values(cut(rule, level)))
 }
 
-// Closing value, whole.
 #[no_mangle]
 pub extern "C" fn ssat_check<'a>(rule: &'a [u8], derivation: &'a [u8], out: &mut [u64; 4]) -> u32
     ensures returned { λ r. ⌜ r ≡ code (check-file (now (rule .entry)) (now (derivation .entry))) ⌝ }
@@ -141,13 +175,9 @@ pub extern "C" fn ssat_check<'a>(rule: &'a [u8], derivation: &'a [u8], out: &mut
     ensures rule_unchanged { λ _. ⌜ now (rule .exit) ≡ now (rule .entry) ⌝ }
     ensures derivation_unchanged { λ _. ⌜ now (derivation .exit) ≡ now (derivation .entry) ⌝ }
 {
-    match check(rule, derivation) {
-        Checking::Refused(refusal) => refuse(out, refusal),
-        Checking::Accepted(x) => fill(out, x.value, x.whole, 0, 0),
-    }
+    hand(out, closing_values(check(rule, derivation)))
 }
 
-// The derivation's length in bytes.
 #[no_mangle]
 pub extern "C" fn ssat_derive(rule: &[u8], buffer: &mut [u8], out: &mut [u64; 4]) -> u32
     ensures returned { λ r. ⌜ r ≡ code (length-of (derive-file (now (rule .entry)) (length (now (buffer .entry))))) ⌝ }
@@ -155,13 +185,9 @@ pub extern "C" fn ssat_derive(rule: &[u8], buffer: &mut [u8], out: &mut [u64; 4]
     ensures written { λ _. ⌜ now (buffer .exit) ≡ buffer-after (derive-file (now (rule .entry)) (length (now (buffer .entry)))) (now (buffer .entry)) ⌝ }
     ensures unchanged { λ _. ⌜ now (rule .exit) ≡ now (rule .entry) ⌝ }
 {
-    match derive(rule, buffer) {
-        Deriving::Refused(refusal) => refuse(out, refusal),
-        Deriving::Answered(length) => fill(out, length as u64, 0, 0, 0),
-    }
+    hand(out, length_values(derive(rule, buffer)))
 }
 
-// The repaired file's length in bytes, clauses dropped, literals dropped, clauses reordered.
 #[no_mangle]
 pub extern "C" fn ssat_repair(rule: &[u8], buffer: &mut [u8], out: &mut [u64; 4]) -> u32
     ensures returned { λ r. ⌜ r ≡ code (repair-answer (now (rule .entry)) (length (now (buffer .entry)))) ⌝ }
@@ -169,14 +195,5 @@ pub extern "C" fn ssat_repair(rule: &[u8], buffer: &mut [u8], out: &mut [u64; 4]
     ensures written { λ _. ⌜ now (buffer .exit) ≡ buffer-after (repair-file (now (rule .entry)) (length (now (buffer .entry)))) (now (buffer .entry)) ⌝ }
     ensures unchanged { λ _. ⌜ now (rule .exit) ≡ now (rule .entry) ⌝ }
 {
-    match repair(rule, buffer) {
-        Repairing::Refused(refusal) => refuse(out, refusal),
-        Repairing::Repaired(x) => fill(
-            out,
-            x.bytes as u64,
-            x.clauses as u64,
-            x.literals as u64,
-            x.reordered as u64,
-        ),
-    }
+    hand(out, repair_values(repair(rule, buffer)))
 }

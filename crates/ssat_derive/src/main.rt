@@ -2,7 +2,7 @@
 use derive_report::derivation_or_refusal;
 use libc::STDIN_FILENO;
 use libc::STDOUT_FILENO;
-use rule_file::limits::MAX_BYTES;
+use limits::MAX_BYTES;
 
 fn main() {
     // One byte more than a rule file may have, so that a longer input is refused, however it arrives.

@@ -3,8 +3,8 @@
 use libc::STDERR_FILENO;
 use libc::STDIN_FILENO;
 use libc::STDOUT_FILENO;
+use limits::MAX_BYTES;
 use repair_report::output_and_notice;
-use rule_file::limits::MAX_BYTES;
 
 fn main() {
     // One byte more than a rule file may have, so that a longer input is refused, however it arrives.

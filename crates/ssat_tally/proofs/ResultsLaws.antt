@@ -1,24 +1,25 @@
 -- The program's results: of a line, and of the lines so far. Then the theorem on what it prints. Assumes nothing.
 use Prim.Native.Nat.{ℕ, suc, _+_, _≤_, _<_}
 use native.Mathlib.Omega.{arith}
-use mathlib.Core.Path.{_≡_, refl, sym, ap, _∙_}
+use mathlib.Core.Path.{_≡_, refl, sym, ap, subst, _∙_}
 use mathlib.Core.List.{List, [], _∷_, _++_, append-nil, append-assoc}
 use mathlib.Core.Option.{Option, none, some}
 use lib.ListN.{length, drop}
+use Rattle.answer.specs.Answer.{refused, answer}
+use Rattle.answer.specs.declared.Refusal.{Refusal}
+use Rattle.buffer.specs.Text.{Begins}
 use Rattle.tally.specs.declared.Tally.{Tally}
 use Rattle.tally.specs.declared.Kind.{Kind}
 use Rattle.tally.specs.declared.Kind.the-variants.{Refused}
 use Rattle.tally.specs.Tally.{begun, step, tally-after, tally-of}
 use Rattle.tally.proofs.TallyLaws.{tally-after-snoc, tally-counts, kinds-add-up}
-use Rattle.rule_file.specs.Answer.{refused, answer}
-use Rattle.rule_file.specs.declared.Refusal.{Refusal}
-use Rattle.report.specs.Report.{refusal-line}
-use Rattle.tally_report.specs.TallyReport.{tally-text}
 use Rattle.job_list.specs.declared.Parsing.{Parsing}
 use Rattle.job_list.specs.declared.Parsing.the-variants as parsing-variants
 use Rattle.job_list.specs.JobList.{Job, list-lines, list-file, list-line-at, name-within}
 use Rattle.job_list.proofs.SplitLaws.{lines-step, lines-over, line-within}
 use Rattle.job_list.proofs.ListLaws.{accepted-list}
+use Rattle.report.specs.Report.{refusal-line}
+use Rattle.tally_report.specs.TallyReport.{tally-text}
 use Rattle.ssat_tally.specs.Results.{Content, InRoom, Contents, file-kind, job-kind, line-kind, line-kinds, printed}
 
 -- a line of another form, and one that gives a job
@@ -115,23 +116,24 @@ all-lines b at t h s =
     let whole : list-lines b ≡ s .before = s .all ∙ ap (s .before ++_) (lines-over b at h) ∙ append-nil (s .before) in
     rw whole (s .so-far)
 
--- what is printed, by the list's answer; of a refused list nothing is read
-abbrev Prints : List ℕ → List ℕ → Type 0
-Prints b text = (cs : List Content) × (Contents (list-lines b) cs × (text ≡ printed b cs))
-
-pub prints-refusal : (b : List ℕ) (r : Refusal) (text : List ℕ) → list-file b ≡ refused r → text ≡ refusal-line r → Prints b text
-prints-refusal b r text e h = (nothing-for (list-lines b), (nothing-read (list-lines b), rw e h))
-
+-- the text of the results' tally is what is printed for an accepted list
 printed-tally :
-    (b : List ℕ) (cs : List Content) (n : ℕ) (t : Tally) (text : List ℕ)
-    → list-file b ≡ answer n
+    (b : List ℕ) (cs : List Content) (k : ℕ) (t : Tally)
+    → list-file b ≡ answer k
     → t ≡ tally-after begun (line-kinds (list-lines b) cs)
-    → text ≡ tally-text t
-    → text ≡ printed b cs
-printed-tally b cs n t text e h f = rw e (f ∙ ap tally-text h)
+    → tally-text t ≡ printed b cs
+printed-tally b cs k t e h = rw e (ap tally-text h)
 
-pub prints-tally : (b : List ℕ) (n : ℕ) (t : Tally) (text : List ℕ) → list-file b ≡ answer n → Tallied (list-lines b) t → text ≡ tally-text t → Prints b text
-prints-tally b n t text e (cs, (read, tally)) f = (cs, (read, printed-tally b cs n t text e tally f))
+-- what a buffer begins with, by the list's answer; of a refused list nothing is read
+module _ (b before after : List ℕ) (n : ℕ) where
+  abbrev Prints : Type 0
+  Prints = (cs : List Content) × (Contents (list-lines b) cs × Begins before (printed b cs) after n)
+
+  pub prints-refusal : (r : Refusal) → list-file b ≡ refused r → Begins before (refusal-line r) after n → Prints
+  prints-refusal r e h = (nothing-for (list-lines b), (nothing-read (list-lines b), rw e h))
+
+  pub prints-tally : (k : ℕ) (t : Tally) → list-file b ≡ answer k → Tallied (list-lines b) t → Begins before (tally-text t) after n → Prints
+  prints-tally k t e (cs, (read, tally)) h = (cs, (read, subst (λ text. Begins before text after n) (printed-tally b cs k t e tally) h))
 
 -- one result for each line
 as-many : (ls : List (List ℕ)) (cs : List Content) → Contents ls cs → length (line-kinds ls cs) ≡ length ls
@@ -156,4 +158,4 @@ printed-counts b n cs e h t f =
     let many : length ks ≡ length (list-lines b) = as-many (list-lines b) cs h in
     let few : length ks ≤ 4096 = omega (many, list .count, list .few, arith) in
     let counts : tally-after begun ks ≡ t = tally-counts ks few ∙ sym f in
-    (sym (printed-tally b cs n t (tally-text t) e (sym counts) refl), (rw f many, rw f (kinds-add-up ks)))
+    (sym (printed-tally b cs n t e (sym counts)), (rw f many, rw f (kinds-add-up ks)))

@@ -4,8 +4,8 @@ use Prim.Native.Nat.{ℕ, _+_, _≤_}
 use mathlib.Core.List.{List, [], _∷_}
 use mathlib.Core.Option.{Option, none, some}
 use lib.ListN.{length}
-use Rattle.rule_file.specs.Limits.{max-bytes}
-use Rattle.rule_file.specs.Answer.{Answer, refused, answer}
+use Rattle.limits.specs.Limits.{max-bytes}
+use Rattle.answer.specs.Answer.{Answer, refused, answer}
 use Rattle.value.specs.Value.{verdict-file}
 use Rattle.tally.specs.declared.Kind.{Kind}
 use Rattle.tally.specs.declared.Kind.the-variants.{Refused}

@@ -8,9 +8,9 @@ use job_list::parse;
 use job_list::read_list;
 use libc::STDIN_FILENO;
 use libc::STDOUT_FILENO;
+use limits::MAX_BYTES;
 use report::put_refusal;
-use rule_file::limits::MAX_BYTES;
-use search::verdict;
+use solver::verdict;
 use tally::Kind;
 use tally::Tally;
 use tally::absorbed;
@@ -20,8 +20,8 @@ use tally_report::tally_text;
 ghost use mathlib.Core.Path.{_≡_};
 ghost use mathlib.Core.List.{List};
 ghost use Prim.Native.Nat.{_≤_};
-ghost use lib.ListN.{length, take};
-ghost use Rattle.io.specs.Counts.{Counts};
+ghost use lib.ListN.{length};
+ghost use Rattle.buffer.specs.Text.{Begins};
 ghost use Rattle.tally.specs.Tally.{begun, tally-after};
 ghost use Rattle.job_list.specs.JobList.{max-list-bytes, list-lines};
 ghost use Rattle.ssat_tally.specs.Results.{Content, InRoom, Contents, file-kind, line-kind, line-kinds, printed};
@@ -73,8 +73,7 @@ fn tally_lines(list: &[u8]) -> Tally
 
 // Writes what is printed for a list at the start of `text`, and answers its length.
 fn answer(list: &[u8], text: &mut [u8; 138]) -> usize
-    ensures { λ r. ⌜ Counts r (now (text .exit)) ⌝ }
-    ensures { λ r. ⌜ ((cs : List Content) × (Contents (list-lines (now (list .entry))) cs × (take r (now (text .exit)) ≡ printed (now (list .entry)) cs))) ⌝ }
+    ensures { λ r. ⌜ ((cs : List Content) × (Contents (list-lines (now (list .entry))) cs × Begins (now (text .entry)) (printed (now (list .entry)) cs) (now (text .exit)) r)) ⌝ }
 {
     match read_list(list) {
         Listing::Refused(refusal) => put_refusal(text, 0, refusal),

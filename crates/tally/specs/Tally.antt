@@ -5,8 +5,9 @@ use mathlib.Core.List.{List, [], _∷_}
 use lib.ListN.{length}
 use lib.Dec.{leb, eqb}
 use Rattle.formula.specs.Formula.{some-of}
-use Rattle.rule_file.specs.Answer.{Answer, refused, answer}
-use Rattle.value.specs.Value.{Verdict, above, below, within}
+use Rattle.answer.specs.Answer.{Answer, refused, answer}
+use Rattle.value.specs.declared.thresholds.Verdict.{Verdict}
+use Rattle.value.specs.declared.thresholds.Verdict.the-variants as verdict-variants
 use Rattle.tally.specs.declared.Tally.{Tally}
 use Rattle.tally.specs.declared.Kind.{Kind}
 use Rattle.tally.specs.declared.Kind.the-variants.{Refused, Above, Below, Within}
@@ -14,9 +15,9 @@ use Rattle.tally.specs.declared.Kind.the-variants.{Refused, Above, Below
 -- the kind of a result, from the verdict's answer
 abbrev pub kind-of : Answer Verdict → Kind
 kind-of (refused _) = Refused
-kind-of (answer above) = Above
-kind-of (answer below) = Below
-kind-of (answer (within _)) = Within
+kind-of (answer verdict-variants.Above) = Above
+kind-of (answer verdict-variants.Below) = Below
+kind-of (answer (verdict-variants.Within _)) = Within
 
 -- a tally begins with five noughts
 abbrev pub begun : Tally

@@ -1,5 +1,6 @@
 // The tally over a list of files: five counts that take in each file's result as it comes.
 use value::Judging;
+use value::thresholds::Verdict;
 ghost use mathlib.Core.Path.{_≡_};
 ghost use Rattle.value.specs.Value.{judging};
 ghost use Rattle.tally.specs.Tally.{kind-of, begun, is-full, step};
@@ -44,9 +45,11 @@ pub fn kind_of(result: Judging) -> Kind
 {
     match result {
         Judging::Refused(_) => Kind::Refused,
-        Judging::Above => Kind::Above,
-        Judging::Below => Kind::Below,
-        Judging::Within(_) => Kind::Within,
+        Judging::Answered(verdict) => match verdict {
+            Verdict::Above => Kind::Above,
+            Verdict::Below => Kind::Below,
+            Verdict::Within(_) => Kind::Within,
+        },
     }
 }
 
@@ -54,19 +57,11 @@ pub fn kind_of(result: Judging) -> Kind
 fn is_full(tally: Tally) -> bool
     ensures { λ r. ⌜ r ≡ is-full tally ⌝ }
 {
-    if FULL <= tally.files {
-        return true;
-    }
-    if FULL <= tally.refused {
-        return true;
-    }
-    if FULL <= tally.above {
-        return true;
-    }
-    if FULL <= tally.below {
-        return true;
-    }
-    FULL <= tally.within
+    (FULL <= tally.files)
+        | (FULL <= tally.refused)
+        | (FULL <= tally.above)
+        | (FULL <= tally.below)
+        | (FULL <= tally.within)
 }
 
 // The tally with one result more: the files count moves, and the count of the result's kind.

@@ -1,18 +1,13 @@
 // The text that the program ssat_tally prints for a tally, byte for byte.
 use buffer::put_line;
 use tally::Tally;
-ghost use mathlib.Core.Path.{_≡_};
-ghost use lib.ListN.{length, take, drop};
-ghost use Rattle.io.specs.Counts.{Counts};
+ghost use Rattle.buffer.specs.Text.{Begins};
 ghost use Rattle.tally_report.specs.TallyReport.{tally-text};
 
 // Writes the five counts at the start of `out`, each on a line after its word, and answers the text's length: at most
 // 138 bytes.
 pub fn tally_text(tally: Tally, out: &mut [u8; 138]) -> usize
-    ensures within { λ r. ⌜ Counts r (now (out .exit)) ⌝ }
-    ensures length { λ r. ⌜ r ≡ length (tally-text tally) ⌝ }
-    ensures text { λ r. ⌜ take r (now (out .exit)) ≡ tally-text tally ⌝ }
-    ensures rest { λ r. ⌜ drop r (now (out .exit)) ≡ drop r (now (out .entry)) ⌝ }
+    ensures text { λ r. ⌜ Begins (now (out .entry)) (tally-text tally) (now (out .exit)) r ⌝ }
 {
     let files = put_line(out, 0, b"files", &[tally.files]);
     let refused = put_line(out, files, b"refused", &[tally.refused]);

@@ -3,15 +3,17 @@
 use mathlib.Core.Path.{_≡_, subst}
 use mathlib.Core.List.{List}
 use Prim.Native.Nat.{ℕ}
-use Rattle.rule_file.specs.RuleFile.{clauses, prefix, whole}
-use Rattle.rule_file.specs.Answer.{answer}
-use Rattle.rule_file.specs.Reader.{read-file}
-use Rattle.rule_file.specs.Accepted.{Accepted}
-use Rattle.rule_file.proofs.AcceptedLaws.{passed-then, answered}
-use Rattle.rule_file.proofs.PrefixLaws.{denominator-pos, prefix-length}
 use Rattle.probability.specs.Fraction.{_over_, _≈_}
 use Rattle.probability.specs.Probability.{Pr, proposition}
 use Rattle.probability.proofs.Figure.{figure-is-Pr}
+use Rattle.answer.specs.Answer.{answer}
+use Rattle.answer.proofs.AnswerLaws.{passed-then}
+use Rattle.prefix_words.proofs.PrefixLaws.{denominator-pos}
+use Rattle.rule_file.specs.RuleFile.{clauses, prefix, whole}
+use Rattle.rule_file.specs.Reader.{read-file}
+use Rattle.rule_file.specs.Accepted.{Accepted}
+use Rattle.rule_file.proofs.AcceptedLaws.{answered}
+use Rattle.rule_file.proofs.FileLaws.{prefix-length}
 use Rattle.value.specs.declared.Ratio.{Ratio}
 use Rattle.value.specs.Value.{figure-of, figure-file}
 

@@ -5,16 +5,16 @@ use mathlib.Core.List.{List}
 use Prim.Native.Nat.{ℕ}
 use lib.ListN.{length}
 use Rattle.buffer.specs.Text.{Put}
-use Rattle.buffer.proofs.TextLaws.{put-at-start}
-use Rattle.rule_file.specs.Limits.{max-bytes}
-use Rattle.rule_file.specs.Answer.{buffer-after}
-use Rattle.rule_file.specs.declared.Refusal.{Refusal}
+use Rattle.buffer.proofs.TextLaws.{put-begins}
+use Rattle.limits.specs.Limits.{max-bytes}
+use Rattle.answer.specs.Answer.{buffer-after}
+use Rattle.answer.specs.declared.Refusal.{Refusal}
 use Rattle.report.specs.Report.{refusal-line}
-use Rattle.writing.specs.Derive.{derive-file, length-of}
-use Rattle.writing.proofs.DeriveLaws.{refusal-answered, length-answered}
-use Rattle.writer.specs.Answer.{derive-answer}
-use Rattle.writer.specs.declared.Deriving.{Deriving}
-use Rattle.writer.specs.declared.Deriving.the-variants as deriving-variants
+use Rattle.written_derivation.specs.Derive.{derive-file, length-of}
+use Rattle.written_derivation.proofs.DeriveLaws.{refusal-answered, length-answered}
+use Rattle.derivation_writer.specs.Answer.{derive-answer}
+use Rattle.derivation_writer.specs.declared.Deriving.{Deriving}
+use Rattle.derivation_writer.specs.declared.Deriving.the-variants as deriving-variants
 use Rattle.derive_report.specs.DeriveReport.{derivation-or-refusal, derive-text}
 use borrow.Author.Needs.{needs}
 use Rattle.derive_report.proofs.derivation_or_refusal.Statement.{statement}
@@ -49,15 +49,13 @@ returns c =
     let derived = c .before .before .before .before .before .derive .ensures in
     let size = c .before .before .before .before .before .before .derive-arg .given .0 .1 in
     let (line, same) = refused-text _ _ _ _ (derived .0) (derived .1 .0) size _ (c .before .before .before .refusal .given .1) in
-    let (within, n, text, rest) = put-at-start (rw same at (c .put-refusal .ensures)) in
-    rw line (within, (n, (text, (rest, refl))))
+    rw line (put-begins (rw same at (c .put-refusal .ensures)), refl)
 
 returns-2 : tie.Need-returns-2
 returns-2 c =
     let derived = c .before .before .before .derive .ensures in
     let size = c .before .before .before .before .derive-arg .given .0 .1 in
-    let (within, n, text, rest) = put-at-start (written-text _ _ _ _ (derived .0) (derived .1 .0) size _ (c .before .length .given .1)) in
-    (within, (n, (text, (rest, refl))))
+    (put-begins (written-text _ _ _ _ (derived .0) (derived .1 .0) size _ (c .before .length .given .1)), refl)
 
 pub derivation-or-refusal-spec : {M : Type 1} → statement M
 derivation-or-refusal-spec =

@@ -5,8 +5,8 @@ use mathlib.Core.List.{List}
 use lib.ListN.{length}
 use borrow.Author.Needs.{needs}
 use borrow.Author.Tests.{lt-ltb, le-ltb}
-use Rattle.rule_file.specs.Answer.{refused, answer}
-use Rattle.rule_file.specs.declared.Refusal.the-variants.{Alone}
+use Rattle.answer.specs.Answer.{refused, answer}
+use Rattle.answer.specs.declared.Refusal.the-variants.{Alone}
 use Rattle.job_list.specs.JobList.{list-lines, list-file}
 use Rattle.job_list.proofs.read_list.Statement.{statement}
 use Rattle.job_list.proofs.read_list.Tie as tie

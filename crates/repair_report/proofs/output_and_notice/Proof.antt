@@ -5,23 +5,17 @@ use mathlib.Core.List.{List}
 use Prim.Native.Nat.{ℕ}
 use native.Mathlib.Omega.{arith}
 use lib.ListN.{length}
-use Rattle.buffer.specs.Text.{Put}
-use Rattle.buffer.proofs.TextLaws.{put-nothing, put-at-start}
-use Rattle.rule_file.specs.Limits.{max-bytes}
-use Rattle.rule_file.specs.Answer.{Answer, refused, answer, and-then, buffer-after}
+use Rattle.buffer.specs.Text.{Put, Begins}
+use Rattle.buffer.proofs.TextLaws.{put-nothing, put-begins}
+use Rattle.limits.specs.Limits.{max-bytes}
+use Rattle.answer.specs.Answer.{Answer, refused, answer, and-then, buffer-after}
 use Rattle.repair.specs.Repair.{repair-file, repairs, repair-answer, repairing}
 use Rattle.repair.specs.declared.Repairs.{Repairs}
 use Rattle.repair.specs.declared.Repairing.{Repairing}
-use Rattle.repair_report.specs.RepairReport.{file-or-nothing, repair-output, counts-or-refusal, repair-notice, Begins}
+use Rattle.repair_report.specs.RepairReport.{file-or-nothing, repair-output, counts-or-refusal, repair-notice}
 use borrow.Author.Needs.{needs}
 use Rattle.repair_report.proofs.output_and_notice.Statement.{statement}
 use Rattle.repair_report.proofs.output_and_notice.Tie as tie
-
--- a text that is put at a buffer's start
-put-begins : {before text after : List ℕ} {n : ℕ} → Put before 0 text after n → Begins before text after n
-put-begins p =
-    let (within, size, text-is, rest-kept) = put-at-start p in
-    record { within = within; size = size; text-is = text-is; rest-kept = rest-kept }
 
 -- what the repair leaves in the buffer, and its length in what the repair answers
 file-put : (a : Answer (List ℕ)) (before : List ℕ) → Put before 0 (file-or-nothing a) (buffer-after a before) (length (file-or-nothing a))

@@ -7,7 +7,7 @@ use native.Mathlib.Omega.{arith}
 use native.Mathlib.Numerals.{add-one}
 use lib.ListN.{length}
 use Rattle.buffer.specs.Text.{Put}
-use Rattle.rule_file.specs.Limits.{max-variables}
+use Rattle.limits.specs.Limits.{max-variables}
 use Rattle.report.specs.Report.{cut-lines, at-level}
 use Rattle.buffer.proofs.TextLaws.{put-nothing, put-append}
 use Rattle.report.proofs.put_cuts.Statement.{statement}

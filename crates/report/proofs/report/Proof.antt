@@ -3,7 +3,7 @@
 use mathlib.Core.Path.{refl}
 use native.Mathlib.Omega.{arith}
 use Rattle.rule_file.proofs.AcceptedLaws.{reading-accepted}
-use Rattle.buffer.proofs.TextLaws.{put-at-start}
+use Rattle.buffer.proofs.TextLaws.{put-begins}
 use Rattle.report.proofs.ReportLaws.{report-refused, report-accepted}
 use borrow.Author.Needs.{needs}
 use Rattle.report.proofs.report.Statement.{statement}
@@ -16,13 +16,11 @@ put-accepted-requires c κs =
 
 returns : tie.Need-returns
 returns c =
-    let (within, e, text, rest) = put-at-start (c .put-refusal .ensures) in
-    rw (report-refused _ _ (c .before .before .before .before .before .read .ensures .0) _ (c .before .before .before .refusal .given .1)) (within, (e, (text, (rest, refl))))
+    rw (report-refused _ _ (c .before .before .before .before .before .read .ensures .0) _ (c .before .before .before .refusal .given .1)) (put-begins (c .put-refusal .ensures), refl)
 
 returns-2 : tie.Need-returns-2
 returns-2 c =
-    let (within, e, text, rest) = put-at-start (c .put-accepted .ensures) in
-    rw (report-accepted _ _ (c .before .before .before .before .before .read .ensures .0) _ (c .before .before .before .header .given .1)) (within, (e, (text, (rest, refl))))
+    rw (report-accepted _ _ (c .before .before .before .before .before .read .ensures .0) _ (c .before .before .before .header .given .1)) (put-begins (c .put-accepted .ensures), refl)
 
 pub report-spec : {M : Type 1} → statement M
 report-spec =

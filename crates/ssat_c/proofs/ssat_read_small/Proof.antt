@@ -1,13 +1,15 @@
 -- `ssat_read_small` meets its contract: it hands over the answer of `read_small`. Assumes nothing.
 use mathlib.Core.Path.{refl}
+use Rattle.ssat_c.specs.Interface.{header-values}
+use Rattle.c_convention.proofs.ConventionLaws.{handed-over}
 use borrow.Author.Needs.{needs}
 use Rattle.ssat_c.proofs.ssat_read_small.Statement.{statement}
 use Rattle.ssat_c.proofs.ssat_read_small.Tie as tie
 
 returns : tie.Need-returns
 returns c =
-    let e = c .before .read-small .ensures .0 in
-    (rw e at (c .hand-over .ensures .0), (rw e at (c .hand-over .ensures .1), refl))
+    let (number, stored) = handed-over header-values _ (c .before .before .read-small .ensures .0) (c .before .header-values .ensures) (c .hand .ensures) in
+    (number, (stored, refl))
 
 pub ssat-read-small-spec : {M : Type 1} → statement M
-ssat-read-small-spec = tie.close (tie.spec (λ c κs. search needs) (λ c κs. search needs) returns)
+ssat-read-small-spec = tie.close (tie.spec (λ c κs. search needs) (λ c κs. search needs) (λ c κs. search needs) returns)

@@ -1,8 +1,7 @@
 -- `ssat_tally` meets its contract: a walk of its MIR, by hand. The borrow of `out` goes to `judge` for good, at its own
--- lifetime, with the file, whose slice is Copy, and the limits, and the answer of `judge` is laid in a local; the borrow
--- of the tally goes to `absorb` for good, with the kind out of that local; and the number out of it is returned. All
--- that is known of `judge` and of `absorb` is that they meet their contracts.
--- Assumes nothing.
+-- lifetime, with the file, whose slice is Copy, and the limits, and the answer of `judge` is laid in a local; the
+-- borrow of the tally goes to `absorb` for good, with the kind out of that local; and the number out of it is returned.
+-- All that is known of `judge` and of `absorb` is that they meet their contracts. Assumes nothing.
 use mathlib.Core.Path.{_≡_, refl, ap, _∙_}
 use Prim.Native.Nat.{ℕ, _<_, _^_}
 use mathlib.Core.List.{[], _∷_, List}
@@ -50,7 +49,7 @@ use Rattle.tally.proofs.absorb as absorb
 use Rattle.tally.proofs.absorb.Symbol as absorb-def
 use Rattle.tally.proofs.absorb.Symbol.{name as #absorb}
 use Rattle.tally.proofs.absorb.Met as absorb-thm
-use Rattle.c_answer.specs.CAnswer.{code as number, filled, verdict-values}
+use Rattle.c_convention.specs.Convention.{code as number, filled, verdict-values}
 use Rattle.ssat_c.specs.declared.Judged.{Judged}
 use Rattle.ssat_c.proofs.Judged as J
 use Rattle.ssat_c.proofs.Judged.Laws as J′

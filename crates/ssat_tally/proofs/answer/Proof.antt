@@ -1,6 +1,6 @@
 -- `answer` meets its contract, by what `read_list` answered. Assumes nothing.
 use mathlib.Core.Path.{sym, ap, _∙_}
-use Rattle.buffer.proofs.TextLaws.{put-at-start}
+use Rattle.buffer.proofs.TextLaws.{put-begins}
 use Rattle.job_list.specs.JobList.{listing}
 use Rattle.job_list.proofs.ListLaws.{accepted-list}
 use Rattle.ssat_tally.proofs.ResultsLaws.{prints-refusal, prints-tally}
@@ -15,17 +15,15 @@ tally-lines-requires c κs =
 returns : tie.Need-returns
 returns c =
     let matched = c .before .before .before in
-    let (within, _, text, _) = put-at-start (c .put-refusal .ensures) in
     let refused = sym (matched .before .before .read-list .ensures .0) ∙ ap listing (matched .refusal .given .1) in
-    (within, prints-refusal _ _ _ refused text)
+    prints-refusal _ _ _ _ _ refused (put-begins (c .put-refusal .ensures))
 
 returns-2 : tie.Need-returns-2
 returns-2 c =
     let counted = c .before .before in
     let matched = counted .before in
-    let (within, (_, (text, _))) = c .tally-text .ensures in
     let accepted = sym (matched .before .before .read-list .ensures .0) ∙ ap listing (matched .enum-told .given .1) in
-    (within, prints-tally _ _ _ _ accepted (counted .tally-lines .ensures) text)
+    prints-tally _ _ _ _ _ _ accepted (counted .tally-lines .ensures) (c .tally-text .ensures)
 
 pub answer-spec : {M : Type 1} → statement M
 answer-spec =

@@ -4,7 +4,7 @@ use mathlib.Core.Path.{_≡_, refl, sym, ap, _∙_}
 use borrow.Author.Needs.{needs}
 use Rattle.clause_reader.specs.Cursor.{Clause, past, advance-file, placing, stepping}
 use mathlib.Core.Option.{Option}
-use Rattle.rule_file.specs.Answer.{Answer}
+use Rattle.answer.specs.Answer.{Answer}
 use Rattle.clause_reader.proofs.CursorLaws.{advance-step, advance-over, advance-stays}
 use Rattle.clause_reader.proofs.cursor.advanced.Statement.{statement}
 use Rattle.clause_reader.proofs.cursor.advanced.Tie as tie

@@ -2,7 +2,7 @@
 -- nothing.
 use mathlib.Core.Path.{refl, sym, ap}
 use native.Mathlib.Omega.{arith}
-use Rattle.rule_file.specs.Answer.{answer}
+use Rattle.answer.specs.Answer.{answer}
 use Rattle.clause_reader.proofs.CursorLaws.{none-left, starts-late, ends-late, given-is}
 use borrow.Author.Needs.{needs}
 use Rattle.clause_reader.proofs.cursor.clause_at.Statement.{statement}

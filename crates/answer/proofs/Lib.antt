@@ -1,0 +1,2 @@
+-- What an answer that is no refusal has passed.
+pub mod AnswerLaws

@@ -1,0 +1,2 @@
+-- What an operation answers, and what a lent buffer then holds.
+pub mod Answer

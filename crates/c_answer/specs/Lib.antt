@@ -1,2 +1,0 @@
--- What a C function returns and stores for an answer.
-pub mod CAnswer

@@ -1,0 +1,2 @@
+-- How an answer is handed over.
+pub mod ConventionLaws

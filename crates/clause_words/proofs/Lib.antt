@@ -1,0 +1,2 @@
+-- Laws of clauses as they stand in a file.
+pub mod ClauseLaws

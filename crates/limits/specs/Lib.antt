@@ -1,0 +1,2 @@
+-- The limits of files.
+pub mod Limits

@@ -1,0 +1,2 @@
+-- Laws of quantifiers by their weights, and of a part of a prefix.
+pub mod PrefixLaws

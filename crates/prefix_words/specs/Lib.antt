@@ -1,0 +1,2 @@
+-- A prefix as it stands in a file.
+pub mod Prefix

@@ -1,0 +1,2 @@
+-- What the quantifiers of the code mean.
+pub mod Quantifiers

@@ -1,0 +1,2 @@
+-- The sets of a stored file's clauses.
+pub mod Stored

@@ -1,2 +1,0 @@
--- That words are read back from the bytes that they are written as.
-pub mod WordsBack

@@ -1,0 +1,7 @@
+-- Laws of walks, of words and parts of a file, of words as bytes and put into a buffer, and that words are read back
+-- from their bytes.
+pub mod WalkLaws
+pub mod WordsLaws
+pub mod BytesLaws
+pub mod PutLaws
+pub mod WordsBack
