@@ -1,5 +1,5 @@
 -- The laws of the meaning of formulas: tests over lists, membership, the elements that pass a test, order inside a
--- clause, statuses, formulas, nodes, clashes, the tree of assignments.
+-- clause, statuses, formulas, nodes, clashes, the tree of assignments, graded literals and quantifiers.
 pub mod SomeLaws
 pub mod Membership
 pub mod ThoseLaws
@@ -9,3 +9,4 @@ pub mod FormulaLaws
 pub mod NodesLaws
 pub mod ClashLaws
 pub mod TreeLaws
+pub mod GradedLaws

@@ -1,15 +1,14 @@
--- Formulas in conjunctive normal form, and their status under a partial assignment. Assumes nothing. A variable is
--- document 01's condition, by its number in the prefix. A literal is a number: 2v is variable v and 2v + 1 its
--- opposite. A clause is a list of literals, a formula a list of clauses. An assignment lists the values of variables 0,
--- 1, .. in prefix order, 1 for true and 0 for false. A variable past its end is unset.
+-- Document 01's formulas: literals of two values, the statuses under their reading, and the order inside a clause.
+-- Assumes nothing. Literal 2v is variable v and 2v + 1 its opposite. Of the values of a variable 1 is true and 0 is
+-- false.
 use Prim.Native.Nat.{ℕ, _+_, _-_, _*_, _/_, _%_, _<_}
-use mathlib.Core.Bool.{Bool, true, false, cond, not, _&&_, _||_}
-use mathlib.Core.List.{List, [], _∷_, List·Memᴰ}
-use lib.ListN.{length, getD}
+use mathlib.Core.Path.{_≡_}
+use mathlib.Core.Bool.{Bool, true, false, cond, _&&_, _||_}
+use mathlib.Core.List.{List, [], _∷_}
 use lib.Dec.{leb, ltb, eqb}
 use Rattle.formula.specs.declared.Status.{Status}
-use Rattle.formula.specs.declared.Status.the-variants.{Falsified, Undetermined, Satisfied}
-use Rattle.formula.specs.Status.{either, both, is-satisfied, is-undetermined}
+unfoldable pub use Rattle.formula.specs.Lists.{some-of, all-of, those, is-empty, _∈_, member}
+use Rattle.formula.specs.Literals.{Literals, literal-status-by, clause-status-by, formula-status-by, unset-literals-by, is-unit-by, clash-by, node-status-by}
 
 abbrev pub variable : ℕ → ℕ
 variable l = l / 2
@@ -18,47 +17,40 @@ variable l = l / 2
 abbrev pub opposite : ℕ → ℕ
 opposite l = cond (eqb (l % 2) 0) (l + 1) (l - 1)
 
--- unset: undetermined. Value 0 falsifies 2v and value 1 falsifies 2v + 1; the other value satisfies
-unfoldable pub literal-status : List ℕ → ℕ → Status
-literal-status p l = cond (ltb (variable l) (length p)) (cond (eqb (getD p (variable l) 0) (l % 2)) Falsified Satisfied) Undetermined
+-- whether l is a variable and k its opposite
+unfoldable pub are-opposite : ℕ → ℕ → Bool
+are-opposite l k = eqb (l % 2) 0 && eqb k (l + 1)
 
--- the empty clause is false
-unfoldable pub clause-status : List ℕ → List ℕ → Status
-clause-status p [] = Falsified
-clause-status p (l ∷ ls) = either (literal-status p l) (clause-status p ls)
+-- value 0 falsifies 2v and value 1 falsifies 2v + 1; the other value satisfies
+abbrev pub two-valued : Literals
+two-valued = record {
+  variable = variable;
+  false-at = λ l x. eqb x (l % 2);
+  FalseAt = λ l x. x ≡ l % 2;
+  excludes = are-opposite;
+  SomeExcluding = λ P. (v : ℕ) × P (2 * v) (2 * v + 1);
+}
 
--- the formula with no clauses is true
-unfoldable pub formula-status : List ℕ → List (List ℕ) → Status
-formula-status p [] = Satisfied
-formula-status p (c ∷ cs) = both (clause-status p c) (formula-status p cs)
+abbrev pub literal-status : List ℕ → ℕ → Status
+literal-status = literal-status-by two-valued
 
--- whether some element passes the test
-unfoldable pub some-of : {A : Type 0} → (A → Bool) → List A → Bool
-some-of f [] = false
-some-of f (x ∷ xs) = f x || some-of f xs
+abbrev pub clause-status : List ℕ → List ℕ → Status
+clause-status = clause-status-by two-valued
 
--- whether every element passes the test
-unfoldable pub all-of : {A : Type 0} → (A → Bool) → List A → Bool
-all-of f [] = true
-all-of f (x ∷ xs) = f x && all-of f xs
+abbrev pub formula-status : List ℕ → List (List ℕ) → Status
+formula-status = formula-status-by two-valued
 
--- the elements that pass the test, in their order
-unfoldable pub those : {A : Type 0} → (A → Bool) → List A → List A
-those f [] = []
-those f (x ∷ xs) = cond (f x) (x ∷ those f xs) (those f xs)
+abbrev pub unset-literals : List ℕ → List ℕ → List ℕ
+unset-literals = unset-literals-by two-valued
 
--- whether the list has no element
-abbrev pub is-empty : List ℕ → Bool
-is-empty [] = true
-is-empty (_ ∷ _) = false
+abbrev pub is-unit : List ℕ → ℕ → List ℕ → Bool
+is-unit = is-unit-by two-valued
 
--- x stands in the list, as a statement and as a test
-infix 50 _∈_
-abbrev pub _∈_ : {A : Type 0} → A → List A → Type 0
-x ∈ xs = List·Memᴰ x xs
+abbrev pub clash : List ℕ → List (List ℕ) → Bool
+clash = clash-by two-valued
 
-abbrev pub member : ℕ → List ℕ → Bool
-member x = some-of (eqb x)
+abbrev pub node-status : List ℕ → List (List ℕ) → Status
+node-status = node-status-by two-valued
 
 -- whether the literal is of variable v
 abbrev pub is-of : ℕ → ℕ → Bool
@@ -109,21 +101,3 @@ equal [] [] = true
 equal [] (k ∷ ks) = false
 equal (l ∷ ls) [] = false
 equal (l ∷ ls) (k ∷ ks) = eqb l k && equal ls ks
-
--- the literals of the clause whose variables are unset
-unfoldable pub unset-literals : List ℕ → List ℕ → List ℕ
-unset-literals p [] = []
-unset-literals p (l ∷ ls) = cond (is-undetermined (literal-status p l)) (l ∷ unset-literals p ls) (unset-literals p ls)
-
--- whether the clause has no true literal and exactly one unset literal, l
-unfoldable pub is-unit : List ℕ → ℕ → List ℕ → Bool
-is-unit p l c = not (is-satisfied (clause-status p c)) && (member l (unset-literals p c) && all-of (eqb l) (unset-literals p c))
-
--- whether two clauses have no true literal and exactly one unset literal each, which are a variable and its opposite:
--- nothing satisfies both
-unfoldable pub clash : List ℕ → List (List ℕ) → Bool
-clash p φ = some-of (λ c. some-of (λ l. is-unit p l c && some-of (is-unit p (opposite l)) φ) c) φ
-
--- the status of a node in the cut: a clash is lost too
-unfoldable pub node-status : List ℕ → List (List ℕ) → Status
-node-status p φ = cond (clash p φ) Falsified (formula-status p φ)

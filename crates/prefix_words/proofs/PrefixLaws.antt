@@ -10,6 +10,7 @@ use native.Mathlib.Decide.{decLe}
 use native.Mathlib.Omega.{arith}
 use lib.Dec.{eqb·suc-zero}
 use Rattle.formula.specs.Formula.{some-of}
+use Rattle.formula.specs.LevelRules.{denominator-by}
 use Rattle.formula.specs.Quantifier.{Quantifier, existential, randomized, total, denominator}
 use Rattle.formula.proofs.SomeLaws.{or-false, none-first, none-rest, some-of-append}
 use Rattle.formula.proofs.TreeLaws.{denominator-append}
@@ -36,7 +37,7 @@ total-pos (randomized zero t) e = absurd (true≢false e)
 total-pos (randomized (suc s) t) e = omega arith
 
 pub denominator-pos : (qs : List Quantifier) → some-of malformed qs ≡ false → 0 < denominator qs
-unfolding denominator
+unfolding denominator-by
 denominator-pos [] e = omega arith
 denominator-pos (q ∷ qs) e = mul-pos (total-pos q (none-first malformed q qs e)) (denominator-pos qs (none-rest malformed q qs e))
 
@@ -69,7 +70,7 @@ module _ (b : List ℕ) (left i : ℕ) (h : 0 < left) (e : some-of malformed (pr
       (c x : ℕ) →
       min (min (total (quantifier-at b i) * x) c * denominator (prefix-from b (left - 1) (after-entry i))) c
       ≡ min (x * denominator (prefix-from b left i)) c
-  unfolding denominator
+  unfolding denominator-by
   capped-step c x =
       capped c _ x _ (denominator-pos _ well-formed-rest) ∙
       ap (λ (d : ℕ). min (x * d) c) (sym (ap denominator (elements-step after-entry (quantifier-at b) left i h)))

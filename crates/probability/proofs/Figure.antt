@@ -11,6 +11,7 @@ use lib.ListN.{length, length-append}
 use lib.Dec.{leb, lit<}
 use Rattle.formula.specs.Status.{is-satisfied}
 use Rattle.formula.specs.Formula.{some-of, out-of-range, formula-status}
+use Rattle.formula.specs.LevelRules.{denominator-by}
 use Rattle.formula.specs.Quantifier.{Quantifier, existential, randomized, denominator}
 use Rattle.formula.specs.Tree.{value, number, figure}
 use Rattle.probability.specs.Fraction.{_over_, _≈_, _⊗_, _⊕_, maximum, complement}
@@ -53,7 +54,7 @@ module _ (φ : List (List ℕ)) (n : ℕ) (bound : some-of (some-of (leb (2 * n)
 
   -- at a leaf ψ is logically equivalent to the constant that the status of φ gives
   leaf : Node []
-  unfolding value denominator truth _≈_
+  unfolding value denominator-by truth _≈_
   leaf bs ψ fits pos is =
       let full : length bs ≡ n = omega arith in
       rw (Pr-of-constant (length bs) ψ (is-satisfied (formula-status (map numeral bs) φ)) (λ v. is v ∙ formula-truth bs v φ (rw full bound)))
@@ -62,12 +63,12 @@ module _ (φ : List (List ℕ)) (n : ℕ) (bound : some-of (some-of (leb (2 * n)
   child : (Q : List Quantifier) → Node Q → (bs : List Bool) (ψ : Proposition) → length bs + suc (length Q) ≡ n → 0 < denominator Q → Substituted bs ψ
       → (b : Bool) → number φ Q (map numeral bs ++ (numeral b ∷ [])) over denominator Q ≈ Pr (suc (length bs)) Q (ψ ⟦ b / length bs ⟧)
   child Q claim bs ψ fits pos is b =
-      simp (length-append, add-one, map-append numeral bs (b ∷ []))
+      simp (length-append, add-one (length bs), map-append numeral bs (b ∷ []))
       at (claim (bs ++ (b ∷ [])) (ψ ⟦ b / length bs ⟧) (simp length-append (omega arith)) pos
       (λ v. truth-substitute v b (length bs) ψ ∙ is (update v (length bs) b) ∙ ap (λ w. truth w (proposition φ)) (fun-ext (override-snoc bs b v))))
 
   node : (Q : List Quantifier) → Node Q
-  unfolding value denominator Pr
+  unfolding value denominator-by Pr
   node [] bs ψ fits pos is = leaf bs ψ fits pos is
   node (existential ∷ Q) bs ψ fits pos is =
       let below = child Q (node Q) bs ψ fits (omega arith) is in

@@ -11,6 +11,7 @@ use borrow.Author.Tests.{leb-false, lt-ltb}
 use Rattle.formula.specs.declared.Status.{Status}
 use Rattle.formula.specs.declared.Status.the-variants.{Falsified, Undetermined, Satisfied}
 use Rattle.formula.specs.Status.{either, both, is-satisfied}
+use Rattle.formula.specs.Literals.{literal-status-by, clause-status-by, formula-status-by}
 use Rattle.formula.specs.Formula.{variable, some-of, literal-status, clause-status, formula-status}
 use Rattle.formula.proofs.SomeLaws.{or-false}
 use Rattle.probability.specs.Probability.{Proposition, constant, atom, negation, conjunction, disjunction, _⟦_/_⟧, truth, literal, clause, proposition}
@@ -75,13 +76,13 @@ is-satisfied-both Undetermined Satisfied = refl
 
 module _ (bs : List Bool) (v : ℕ → Bool) where
   literal-truth : (l : ℕ) → variable l < length bs → truth (override bs v) (literal l) ≡ is-satisfied (literal-status (map numeral bs) l)
-  unfolding literal-status override
+  unfolding literal-status-by override
   literal-truth l h =
       rw (length-map, lt-ltb (variable l) (length bs), getD-numeral bs (variable l) (v (variable l)))
       (sign-truth (override bs v) (variable l) (l % 2) (omega arith))
 
   clause-truth : (ls : List ℕ) → some-of (leb (2 * length bs)) ls ≡ false → truth (override bs v) (clause ls) ≡ is-satisfied (clause-status (map numeral bs) ls)
-  unfolding truth clause clause-status some-of
+  unfolding truth clause clause-status-by some-of
   clause-truth [] h = refl
   clause-truth (l ∷ ls) h =
       let (k, ks) = or-false (leb (2 * length bs) l) _ h in
@@ -90,7 +91,7 @@ module _ (bs : List Bool) (v : ℕ → Bool) where
 
   -- under values for all its variables
   pub formula-truth : (φ : List (List ℕ)) → some-of (some-of (leb (2 * length bs))) φ ≡ false → truth (override bs v) (proposition φ) ≡ is-satisfied (formula-status (map numeral bs) φ)
-  unfolding truth proposition formula-status some-of
+  unfolding truth proposition formula-status-by some-of
   formula-truth [] h = refl
   formula-truth (c ∷ φ) h =
       let (k, ks) = or-false (some-of (leb (2 * length bs)) c) _ h in

@@ -3,7 +3,7 @@ use mathlib.Core.Path.{_≡_, refl}
 use mathlib.Core.List.{List, [], _∷_, map}
 use Prim.Native.Nat.{ℕ}
 use Rattle.formula.specs.Formula.{some-of, those, out-of-range, repeats, unordered, without, insert-once, rising}
-use Rattle.formula.specs.Quantifier.{denominator}
+use Rattle.formula.specs.LevelRules.{denominator-by}
 use Rattle.answer.specs.Answer.{refused, answer}
 use Rattle.answer.specs.declared.Refusal.the-variants.{Alone}
 use Rattle.words.specs.Bytes.{word-bytes, bytes-of}
@@ -41,7 +41,7 @@ example-reordered = refl
 -- a file of the clause 2, 0 over two existential variables: 7 and 23 are not asked
 pub example-unordered : repair-file (bytes-of (2 ∷ 2 ∷ 0 ∷ 0 ∷ 0 ∷ 0 ∷ 0 ∷ 1 ∷ 2 ∷ 3 ∷ 11 ∷ [])) 44 ≡ answer (bytes-of (2 ∷ 0 ∷ 2 ∷ 0 ∷ 0 ∷ 0 ∷ 0 ∷ 1 ∷ 2 ∷ 3 ∷ 11 ∷ []))
 unfolding
-    tautological some-of those insert-once rising out-of-range repeats unordered denominator
+    tautological some-of those insert-once rising out-of-range repeats unordered denominator-by
     bytes-of word-bytes elements first walk word wrong-length quantifier
     wrong-count too-many wrong-prefix clause-fits malformed too-large read-from-8 read-from-6 read-from-5 read-from-3 read-within read-file read-stored
     formula-words rule-words repaired-file repair-file
@@ -50,7 +50,7 @@ example-unordered = refl
 -- one of the clause 2, 2: the repaired file has 40 bytes, and still 43 are too few
 pub example-room : repair-file (bytes-of (2 ∷ 2 ∷ 2 ∷ 0 ∷ 0 ∷ 0 ∷ 0 ∷ 1 ∷ 2 ∷ 3 ∷ 11 ∷ [])) 43 ≡ refused (Alone 25)
 unfolding
-    tautological some-of those insert-once rising out-of-range repeats unordered denominator
+    tautological some-of those insert-once rising out-of-range repeats unordered denominator-by
     bytes-of word-bytes elements first walk word wrong-length quantifier
     wrong-count too-many wrong-prefix clause-fits malformed too-large read-from-8 read-from-6 read-from-5 read-from-3 read-within read-file read-stored
     formula-words rule-words repaired-file repair-file

@@ -1,8 +1,9 @@
 -- Every sample's question has its outcome, computed. Assumes nothing.
 use mathlib.Core.Path.{_≡_, refl}
 use mathlib.Core.List.{map}
-use Rattle.formula.specs.Formula.{literal-status, clause-status, formula-status, some-of, those, out-of-range, repeats, unordered, ill-formed, without, insert-once, rising, equal, all-of, unset-literals, is-unit, clash, node-status}
-use Rattle.formula.specs.Quantifier.{denominator}
+use Rattle.formula.specs.Literals.{literal-status-by, clause-status-by, formula-status-by, unset-literals-by, is-unit-by, clash-by, node-status-by}
+use Rattle.formula.specs.Formula.{are-opposite, some-of, those, out-of-range, repeats, unordered, ill-formed, without, insert-once, rising, equal, all-of}
+use Rattle.formula.specs.LevelRules.{denominator-by}
 use Rattle.formula.specs.Tree.{value, evaluate}
 use Rattle.resolution.specs.Resolution.{level, is-resolvent, lookup, require, judge-resolvent, judge, first-refusal, judge-from, empty-value}
 use Rattle.words.specs.Bytes.{word-bytes, bytes-of}
@@ -24,9 +25,9 @@ use Rattle.repair.specs.Repair.{repaired-file, repair-file, repair-answer}
 use Rattle.samples.specs.Samples.{Sample, ask, samples}
 
 pub samples-hold : map (λ (s : Sample). ask (s .question)) samples ≡ map (λ (s : Sample). s .expected) samples
-unfolding literal-status clause-status formula-status some-of all-of those out-of-range repeats unordered ill-formed without insert-once rising equal
-    unset-literals is-unit clash node-status
-    denominator value evaluate
+unfolding literal-status-by clause-status-by formula-status-by some-of all-of those out-of-range repeats unordered ill-formed without insert-once rising equal
+    unset-literals-by is-unit-by are-opposite clash-by node-status-by
+    denominator-by value evaluate
     bytes-of word-bytes elements first walk word wrong-length quantifier
     wrong-count too-many wrong-prefix clause-fits malformed too-large read-from-8 read-from-6 read-from-5 read-from-3 read-within read-file read-small read-stored
     figure-file read-with-limits verdict verdict-file read-with-level cut-file

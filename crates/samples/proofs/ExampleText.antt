@@ -1,8 +1,9 @@
 -- All that the program prints for document 01's example file, and for two files that are refused with a place. Assumes
 -- nothing.
 use mathlib.Core.Path.{_≡_, refl}
-use Rattle.formula.specs.Formula.{literal-status, clause-status, formula-status, some-of, all-of, out-of-range, repeats, unordered, unset-literals, is-unit, clash, node-status}
-use Rattle.formula.specs.Quantifier.{denominator}
+use Rattle.formula.specs.Literals.{literal-status-by, clause-status-by, formula-status-by, unset-literals-by, is-unit-by, clash-by, node-status-by}
+use Rattle.formula.specs.Formula.{are-opposite, some-of, all-of, out-of-range, repeats, unordered}
+use Rattle.formula.specs.LevelRules.{denominator-by}
 use Rattle.formula.specs.Tree.{value, evaluate}
 use Rattle.buffer.specs.Text.{ascii, decimal-by, decimal, after-blanks, line}
 use Rattle.words.specs.Bytes.{word-bytes, bytes-of}
@@ -20,7 +21,7 @@ pub example-text :
 unfolding report-text accepted-text head-text cut-lines cut-line line after-blanks decimal decimal-by ascii bytes-of word-bytes
     read-file read-within read-from-3 read-from-5 read-from-6 read-from-8 wrong-length wrong-count too-many wrong-prefix walk clause-fits first malformed too-large
     elements word quantifier out-of-range repeats unordered some-of
-    denominator value evaluate literal-status clause-status formula-status all-of unset-literals is-unit clash node-status
+    denominator-by value evaluate literal-status-by clause-status-by formula-status-by all-of unset-literals-by is-unit-by are-opposite clash-by node-status-by
 example-text = refl
 
 pub refusal-text : report-text (bytes-of variable-twice) ≡ ascii "refused 7 1\n"
