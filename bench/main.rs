@@ -49,6 +49,7 @@ mod bench {
     use peer::tables::Tables;
     use peer::writer::{self, DerivationDraft, Limits, Writer};
     use peer::{answer, derivation, walk};
+    use std::collections::HashSet;
     use std::env;
     use std::hint::black_box;
     use std::io::{Read, Write};
@@ -86,6 +87,18 @@ mod bench {
 
     fn rules_of(bytes: &[u8]) -> Rules {
         rules::read(bytes).expect("an accepted rule file")
+    }
+
+    /// So many clauses, no two of them alike.
+    fn distinct(count: usize, mut draw: impl FnMut() -> Vec<u32>) -> Vec<Vec<u32>> {
+        let (mut seen, mut clauses) = (HashSet::new(), Vec::new());
+        while clauses.len() < count {
+            let clause = draw();
+            if seen.insert(clause.clone()) {
+                clauses.push(clause);
+            }
+        }
+        clauses
     }
 
     /// Milliseconds, with about three figures.
@@ -544,9 +557,7 @@ mod bench {
     /// Random clauses of three literals, three times as many as variables.
     fn three_clauses(seed: u64, n: usize, randomized: impl Fn(usize) -> bool) -> RuleDraft {
         let mut random = Random::new(seed + n as u64);
-        let clauses = (0..3 * n)
-            .map(|_| generate::clause(&mut random, n, 3))
-            .collect();
+        let clauses = distinct(3 * n, || generate::clause(&mut random, n, 3));
         let pair = |v| {
             if randomized(v) {
                 random.pick(&[[1, 1], [1, 2], [2, 1]])
@@ -694,9 +705,7 @@ mod bench {
         loop {
             let n = random.within(11, 13);
             let m = random.within(2 * n, 4 * n);
-            let clauses = (0..m)
-                .map(|_| generate::clause(&mut random, n, 3))
-                .collect();
+            let clauses = distinct(m, || generate::clause(&mut random, n, 3));
             let prefix = (0..n)
                 .map(|v| if v % 2 == 0 { [0, 0] } else { [2, 1] })
                 .collect();
@@ -714,9 +723,7 @@ mod bench {
     fn wandered() -> (RuleDraft, DerivationDraft) {
         let mut random = Random::new(6_000);
         let n = 16;
-        let mut clauses: Vec<Vec<u32>> = (0..998)
-            .map(|_| generate::clause(&mut random, n, 3))
-            .collect();
+        let mut clauses = distinct(998, || generate::clause(&mut random, n, 3));
         clauses.extend([vec![0], vec![1]]);
         let rule = RuleDraft {
             clauses,
@@ -742,7 +749,7 @@ mod bench {
         let mut random = Random::new(7_000);
         let n = 20;
         let mut clauses: Vec<Vec<u32>> = (0..10).map(|v| vec![2 * v + 1]).collect();
-        clauses.extend((0..990).map(|_| {
+        clauses.extend(distinct(990, || {
             let mut clause = vec![2 * random.within(0, 9) as u32 + 1];
             clause.extend(generate::clause(&mut random, 10, 2).iter().map(|l| l + 20));
             clause
@@ -885,31 +892,80 @@ mod bench {
     fn full_rule(k: usize) -> RuleDraft {
         const N: usize = 16;
         let mut random = Random::new(8_000 + k as u64);
-        let words = [(); 1_024 - 4 - 2 * N];
-        let clauses = words
-            .chunks(1 + k)
-            .map(|words| generate::clause(&mut random, N, words.len() - 1))
-            .collect();
+        let words = 1_024 - 4 - 2 * N;
+        let mut clauses = distinct(words / (1 + k), || generate::clause(&mut random, N, k));
+        if let Some(last) = (words % (1 + k)).checked_sub(1) {
+            clauses.push(generate::clause(&mut random, N, last));
+        }
         RuleDraft {
             clauses,
             prefix: vec![[1, 2]; N],
         }
     }
 
-    /// Both readers on files within the small limits, and the bench's on its longest. The stack is
-    /// that of the call alone.
+    /// As many clauses as 4,096 bytes hold over 16 variables: the empty one, all of one literal, and
+    /// of two as many as there is room for.
+    fn most_clauses() -> RuleDraft {
+        const N: u32 = 16;
+        let pairs = (0..2 * N).flat_map(|a| (a / 2 * 2 + 2..2 * N).map(move |b| vec![a, b]));
+        let mut clauses = vec![Vec::new()];
+        clauses.extend((0..2 * N).map(|literal| vec![literal]));
+        let left = 1_024 - 4 - 2 * N as usize - 1 - 2 * clauses.len() + 2;
+        clauses.extend(pairs.take(left / 3));
+        RuleDraft {
+            clauses,
+            prefix: vec![[1, 2]; N as usize],
+        }
+    }
+
+    /// The chain in which the proved reader looks for a clause, by the set of its literals: bit `l`
+    /// for literal `l`.
+    fn hash(mask: u64) -> usize {
+        let mixed = (mask & 0xFFFF_FFFF) * 1_000_000_007 + (mask >> 32) * 1_999_999_973;
+        (((mixed >> 20) + (mixed >> 40)) % 4_096) as usize
+    }
+
+    /// As many clauses as there may be, all of them in one chain: each is compared with all before
+    /// it.
+    fn one_chain() -> RuleDraft {
+        let mut random = Random::new(8_100);
+        let draw = || loop {
+            let clause = generate::clause(&mut random, 32, 14);
+            if hash(clause.iter().map(|literal| 1 << literal).sum()) == 0 {
+                return clause;
+            }
+        };
+        RuleDraft {
+            clauses: distinct(1_024, draw),
+            prefix: vec![[1, 2]; 32],
+        }
+    }
+
+    /// The longest file with its first clause in the place of the last too: 26 at clause 1,023.
+    fn last_copied() -> RuleDraft {
+        let mut rule = generate::longest_rule([1, 2]);
+        rule.clauses[1_023] = rule.clauses[0].clone();
+        rule
+    }
+
+    /// Both readers on files within the small limits, and the bench's on its longest and on those
+    /// that take it longest to look for copies. The stack is that of the call alone.
     fn readers() {
-        println!("| rule file | n | m | bytes | read, ns | read_small, ns | peer, ns | read / peer | read_small / read | stack of read_small, bytes |");
-        println!("|---|--:|--:|--:|--:|--:|--:|--:|--:|--:|");
+        println!("| rule file | n | m | bytes | read answers | read, ns | read_small, ns | peer, ns | read / peer | read_small / read | stack of read_small, bytes |");
+        println!("|---|--:|--:|--:|--:|--:|--:|--:|--:|--:|--:|");
         for (name, rule) in [
             ("the sample", generate::sample().0),
+            ("as many clauses as there may be", most_clauses()),
             ("3 literals a clause", full_rule(3)),
             ("15 literals a clause", full_rule(15)),
             ("the longest", generate::longest_rule([1, 2])),
+            ("the longest, its last clause a copy", last_copied()),
+            ("1,024 clauses in one chain", one_chain()),
         ] {
             let file = rule.bytes();
             let expected = answer::reading(&rules::read(&file));
-            assert_eq!(direct::read(&file), (0, expected.out([0; 4])));
+            let refusal = expected.code;
+            assert_eq!(direct::read(&file), (refusal, expected.out([0; 4])));
             let expected = answer::read_small(&file);
             assert_eq!(
                 direct::read_small(&file),
@@ -924,7 +980,7 @@ mod bench {
                 stack = read_small_on_stack(&file).1.to_string();
             }
             println!(
-                "| {name} | {} | {} | {} | {} | {time} | {} | {} | {to_read} | {stack} |",
+                "| {name} | {} | {} | {} | {refusal} | {} | {time} | {} | {} | {to_read} | {stack} |",
                 rule.prefix.len(),
                 rule.clauses.len(),
                 file.len(),
@@ -943,11 +999,24 @@ mod bench {
     fn in_order() -> RuleDraft {
         let mut random = Random::new(9_000);
         RuleDraft {
-            clauses: (0..1_000)
-                .map(|_| generate::clause(&mut random, 32, 15))
-                .collect(),
+            clauses: distinct(1_000, || generate::clause(&mut random, 32, 15)),
             prefix: vec![[1, 2]; 32],
         }
+    }
+
+    /// The same with copies of the first half in the place of the second, in any order if they are
+    /// shuffled.
+    fn half_copied(shuffled: bool) -> RuleDraft {
+        let mut random = Random::new(9_002);
+        let mut rule = in_order();
+        rule.clauses.truncate(500);
+        rule.clauses.extend_from_within(..);
+        if shuffled {
+            rule.clauses
+                .iter_mut()
+                .for_each(|clause| random.shuffle(clause));
+        }
+        rule
     }
 
     /// The same with clauses changed one by one, by their number.
@@ -961,7 +1030,8 @@ mod bench {
     }
 
     /// The repair against the full reader on the same file and a copy of it: it is to take at most
-    /// twice the reader's time, and a copy. The reader refuses the last file by 7 at clause 3.
+    /// twice the reader's time, and a copy. The reader refuses the file with repeats by 7 at clause 3,
+    /// and the one whose second half are copies, in order, by 26 at clause 500.
     fn repairs() {
         println!("| clauses | bytes | new bytes | read answers | read, ns | copy, ns | repair, ns | repair / (2 read + copy) | peer, ns | repair / peer | stack, bytes |");
         println!("|---|--:|--:|--:|--:|--:|--:|--:|--:|--:|--:|");
@@ -999,6 +1069,12 @@ mod bench {
                     }
                 }),
             ),
+            ("the second half are copies", half_copied(false)),
+            (
+                "the second half are copies, in any order",
+                half_copied(true),
+            ),
+            ("1,024 clauses in one chain", one_chain()),
         ] {
             let file = rule.bytes();
             let mut buffer = vec![0; file.len()];

@@ -2,7 +2,7 @@
  * mean and where each refusal's border lies is in docs/FORMATS.md.
  *
  * Each of the nine functions returns 0 for an answer, else the number of the refusal. The answer depends on the
- * arguments alone; several threads may call at once, and a call takes under 640 KiB of a thread's stack. The whole is
+ * arguments alone; several threads may call at once, and a call takes under 1 MiB of a thread's stack. The whole is
  * the product of the totals of all variables: the value of the formula, out of the whole, is the maximum probability
  * that every clause holds.
  *
@@ -23,7 +23,7 @@
  *   tally              five counts, lent for reading and writing; not null, aligned, and no part of the other buffers.
  *
  * The reader's refusals, of the rule file, by every function; ssat_read_small has 4,096 bytes in 1 and 16 variables in
- * 3, and ssat_repair has no 7 and no 23:
+ * 3, and ssat_repair has none of 7, 23 and 26:
  *    1  length not a multiple of 4, under 16 or over 65,536 bytes
  *    2  the last word is not the word count
  *    3  more than 32 variables or more than 1,024 clauses
@@ -33,6 +33,7 @@
  *    6  a literal out of range; out[0] is the first such clause
  *    7  a variable twice in one clause; out[0] is the first such clause
  *   23  variables that do not rise from literal to literal of a clause; out[0] is the first such clause
+ *   26  a clause with the literals of an earlier one; out[0] is the first such clause
  *    8  a weight over 65,535, or one weight 0 and the other not; out[0] is the first such variable
  *    9  the whole is over 2^60
  * Refusals of the limits and the level:
@@ -72,8 +73,8 @@ extern "C" {
  * Refusals: the reader's. */
 uint32_t ssat_read(const uint8_t *rule, size_t len, uint64_t out[4]);
 
-/* Reads a rule file of at most 4,096 bytes and 16 variables, and answers as ssat_read does; one beyond these limits that
- * ssat_read accepts is refused by 1 or 3. Uses under 1,024 bytes of stack.
+/* Reads a rule file of at most 4,096 bytes and 16 variables, and answers as ssat_read does; one beyond these limits
+ * that ssat_read accepts is refused by 1 or 3. Uses under 1,024 bytes of stack.
  * out: number of variables, number of clauses, word where the prefix begins, whole.
  * Refusals: the reader's. */
 uint32_t ssat_read_small(const uint8_t *rule, size_t len, uint64_t out[4]);
@@ -120,10 +121,12 @@ uint32_t ssat_check(const uint8_t *rule, size_t len, const uint8_t *derivation, 
 uint32_t ssat_derive(const uint8_t *rule, size_t len, uint8_t *buffer, size_t capacity, uint64_t out[4]);
 
 /* Repairs a stored rule file into `buffer`: literals in rising order, each once; clauses that hold a literal and its
- * opposite dropped; the others in their order; the prefix as it was; a trailer that fits. ssat_read accepts what is
- * written. A clause counts as reordered where its literals, without the later repeats, were not rising.
+ * opposite dropped, and those that then have the literals of an earlier one; the others in their order; the prefix as
+ * it was; a trailer that fits. ssat_read accepts what is written. A clause counts as reordered where its literals,
+ * without the later repeats, were not rising. Where clauses are dropped those after them have other numbers, and
+ * derivations for the old file must be written anew.
  * out: byte length, clauses dropped, literals dropped from kept clauses, kept clauses reordered.
- * Refusals: the reader's but 7 and 23, 25. */
+ * Refusals: the reader's but 7, 23 and 26, 25. */
 uint32_t ssat_repair(const uint8_t *rule, size_t len, uint8_t *buffer, size_t capacity, uint64_t out[4]);
 
 #ifdef __cplusplus

@@ -1,8 +1,9 @@
--- The laws of the meaning of formulas: tests over lists, membership, the elements that pass a test, order inside a
--- clause, statuses, formulas, nodes, clashes, the tree of assignments, graded literals and quantifiers.
+-- The laws of the meaning of formulas: tests over lists, membership, the elements that pass a test, copies, order
+-- inside a clause, statuses, formulas, nodes, clashes, the tree of assignments, graded literals and quantifiers.
 pub mod SomeLaws
 pub mod Membership
 pub mod ThoseLaws
+pub mod CopyLaws
 pub mod OrderLaws
 pub mod StatusLaws
 pub mod FormulaLaws

@@ -7,7 +7,7 @@ use mathlib.Core.Bool.{Bool, true, false, cond, _&&_, _||_}
 use mathlib.Core.List.{List, [], _∷_}
 use lib.Dec.{leb, ltb, eqb}
 use Rattle.formula.specs.declared.Status.{Status}
-unfoldable pub use Rattle.formula.specs.Lists.{some-of, all-of, those, is-empty, _∈_, member}
+unfoldable pub use Rattle.formula.specs.Lists.{some-of, all-of, those, first-of-each, is-empty, _∈_, member}
 use Rattle.formula.specs.Literals.{Literals, literal-status-by, clause-status-by, formula-status-by, unset-literals-by, is-unit-by, clash-by, node-status-by}
 
 abbrev pub variable : ℕ → ℕ

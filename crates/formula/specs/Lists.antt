@@ -1,6 +1,6 @@
--- Tests over a list, and the elements that pass one. Assumes nothing.
+-- Tests over a list, the elements that pass one, and those that are no copies. Assumes nothing.
 use Prim.Native.Nat.{ℕ}
-use mathlib.Core.Bool.{Bool, true, false, cond, _&&_, _||_}
+use mathlib.Core.Bool.{Bool, true, false, cond, not, _&&_, _||_}
 use mathlib.Core.List.{List, [], _∷_, List·Memᴰ}
 use lib.Dec.{eqb}
 
@@ -18,6 +18,11 @@ all-of f (x ∷ xs) = f x && all-of f xs
 unfoldable pub those : {A : Type 0} → (A → Bool) → List A → List A
 those f [] = []
 those f (x ∷ xs) = cond (f x) (x ∷ those f xs) (those f xs)
+
+-- the elements of which no earlier one is the same
+unfoldable pub first-of-each : {A : Type 0} → (A → A → Bool) → List A → List A
+first-of-each same [] = []
+first-of-each same (x ∷ xs) = x ∷ those (λ y. not (same x y)) (first-of-each same xs)
 
 -- whether the list has no element
 abbrev pub is-empty : List ℕ → Bool

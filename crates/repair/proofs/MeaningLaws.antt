@@ -5,7 +5,7 @@ use native.Mathlib.Omega.{arith}
 use mathlib.Core.Path.{_≡_, refl, ap}
 use mathlib.Core.Logic.{_↔_}
 use mathlib.Core.Bool.{Bool, true, false, cond}
-use mathlib.Core.List.{List, [], Memᴰ·map, Memᴰ·of-map}
+use mathlib.Core.List.{List, [], Memᴰ·of-map}
 use lib.ListN.{length, getD}
 use Rattle.formula.specs.Status.{is-satisfied}
 use Rattle.formula.specs.Formula.{variable, opposite, formula-status, some-of, _∈_, out-of-range, rising}
@@ -19,7 +19,7 @@ use Rattle.formula.proofs.StatusLaws.{is-satisfied-true}
 use Rattle.formula.proofs.NodesLaws.{satisfied-iff-met}
 use Rattle.formula.proofs.TreeLaws.{value-same}
 use Rattle.repair.specs.Clauses.{tautological, kept, repaired}
-use Rattle.repair.proofs.ListLaws.{tautological-iff, kept-iff}
+use Rattle.repair.proofs.ListLaws.{tautological-iff, kept-in, kept-rising}
 
 -- an assignment that sets the variables of a tautological clause makes one of its literals true
 tautological-satisfied : (n : ℕ) (p : List ℕ) → n ≤ length p → (c : List ℕ) → out-of-range n c ≡ false → tautological c ≡ true → Some (TrueLiteral p) c
@@ -40,12 +40,12 @@ module _ (n : ℕ) (p : List ℕ) (h : n ≤ length p) (φ : List (List ℕ)) (i
       back : Met p (repaired φ) → (c : List ℕ) → c ∈ φ → (t : Bool) → tautological c ≡ t → Some (TrueLiteral p) c
       back satisfied c m true e = tautological-satisfied n p h c (none-of (out-of-range n) in-range m) e
       back satisfied c m false e =
-          let (l, i, is) = satisfied (rising c) (Memᴰ·map rising (kept-iff φ c .1 (m, e))) in (l, rising-in l c .0 i, is)
+          let (l, i, is) = satisfied (rising c) (kept-rising φ c m e) in (l, rising-in l c .0 i, is)
 
       there : Met p φ → Met p (repaired φ)
       there satisfied d m =
           let (c, k, e) = Memᴰ·of-map rising (kept φ) m in
-          let (l, i, is) = satisfied c (kept-iff φ c .0 k .0) in (l, rw e at (rising-in l c .1 i), is)
+          let (l, i, is) = satisfied c (kept-in φ c k .0) in (l, rw e at (rising-in l c .1 i), is)
 
   -- and so a leaf of the one tree satisfies where that of the other does
   repaired-satisfies : satisfies (repaired φ) p ≡ satisfies φ p

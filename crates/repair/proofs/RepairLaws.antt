@@ -1,5 +1,5 @@
 -- The repaired file of a stored one: its parts fit, so that it is read back; it is not longer; and where a file is in
--- order there is nothing to count. Then the file as it is written. Assumes nothing.
+-- order and without copies there is nothing to count. Then the file as it is written. Assumes nothing.
 use mathlib.Core.Path.{_≡_, sym, ap, _∙_, subst}
 use mathlib.Core.Bool.{false, _||_}
 use mathlib.Core.List.{List, [], _∷_, _++_}
@@ -9,10 +9,11 @@ use native.Mathlib.Omega.{arith}
 use lib.ListN.{length}
 use lib.Dec.{ltb, eqb}
 use borrow.Author.Tests.{ltb-false}
-use Rattle.formula.specs.Formula.{some-of, out-of-range, unordered}
+use Rattle.formula.specs.Formula.{some-of, out-of-range, unordered, equal}
 use Rattle.formula.specs.Quantifier.{randomized}
 use Rattle.formula.proofs.SomeLaws.{or-false, none-first, none-rest}
 use Rattle.formula.proofs.Membership.{none-of}
+use Rattle.formula.proofs.CopyLaws.{NoCopies}
 use Rattle.formula.proofs.OrderLaws.{ordered-short}
 use Rattle.limits.specs.Limits.{max-weight}
 use Rattle.buffer.specs.Text.{Put}
@@ -92,12 +93,13 @@ module _ (b : List ℕ) (a : AcceptedWithin stored-limits b) where
   unfolding repaired-file
   repaired-reads = rule-back (repaired (clauses b)) (variable-count b) (weights b) repaired-fits
 
--- Nothing is to be counted of a file in order
-pub in-order-counts : (b : List ℕ) → some-of unordered (clauses b) ≡ false → record { bytes = length b; clauses = 0; literals = 0; reordered = 0 } ≡ repairs b b
-in-order-counts b in-order =
+-- Nothing is to be counted of a file in order and without copies
+pub in-order-counts : (b : List ℕ) → some-of unordered (clauses b) ≡ false → NoCopies equal (clauses b)
+    → record { bytes = length b; clauses = 0; literals = 0; reordered = 0 } ≡ repairs b b
+in-order-counts b in-order distinct =
     let no-clauses : 0 ≡ dropped-clauses (clauses b) (clauses b) = omega arith in
-    let no-literals : 0 ≡ dropped-literals (clauses b) (clauses b) = rw (ordered-kept (clauses b) in-order) (omega arith) in
-    λ j. record { bytes = length b; clauses = no-clauses j; literals = no-literals j; reordered = sym (ordered-not-reordered (clauses b) in-order) j }
+    let no-literals : 0 ≡ dropped-literals (clauses b) (clauses b) = rw (ordered-kept (clauses b) in-order distinct) (omega arith) in
+    λ j. record { bytes = length b; clauses = no-clauses j; literals = no-literals j; reordered = sym (ordered-not-reordered (clauses b) in-order distinct) j }
 
 -- The file as it is written: the clauses are held, and the weights are put after them
 module _ (b : List ℕ) (a : AcceptedWithin stored-limits b) {before one : List ℕ} {x : Repairs} (held : Held before (clauses b) one x) where

@@ -6,24 +6,27 @@ use mathlib.Core.List.{List, _++_}
 use Prim.Native.Nat.{ℕ, _≤_}
 use native.Mathlib.Omega.{arith}
 use lib.ListN.{length, drop, length-append, length-drop}
-use Rattle.formula.specs.Formula.{some-of, unordered}
+use Rattle.formula.specs.Formula.{some-of, unordered, equal}
 use Rattle.formula.specs.Quantifier.{denominator}
 use Rattle.formula.specs.Tree.{figure}
+use Rattle.formula.proofs.CopyLaws.{NoCopies}
 use Rattle.answer.specs.Answer.{answer, buffer-after}
 use Rattle.answer.proofs.AnswerLaws.{passed-then, same-answer}
 use Rattle.buffer.specs.Text.{Put}
 use Rattle.buffer.proofs.TextLaws.{put-begins}
+use Rattle.words.proofs.FirstCopyLaws.{first-copy-iff}
 use Rattle.rule_file.specs.ReaderLimits.{stored-limits}
 use Rattle.rule_file.specs.RuleFile.{variable-count, clauses, prefix, whole}
 use Rattle.rule_file.specs.Accepted.{AcceptedWithin, Accepted}
 use Rattle.rule_file.proofs.FileLaws.{prefix-length}
 use Rattle.rule_file.proofs.AcceptedLaws.{accepted-answers, stored-accepts}
 use Rattle.value.specs.Value.{figure-of, figure-file}
+use Rattle.repair.specs.Clauses.{repaired}
 use Rattle.repair.specs.File.{rule-bytes}
 use Rattle.repair.specs.Repair.{repaired-file, repair-file, repair-answer, repairs}
 use Rattle.repair.specs.declared.Repairs.{Repairs}
 use Rattle.repair.specs.Claims.{RepairedTo, RepairedInto}
-use Rattle.repair.proofs.ListLaws.{repaired-ordered, repaired-in-range, ordered-repaired}
+use Rattle.repair.proofs.ListLaws.{repaired-ordered, repaired-in-range, repaired-no-copies, ordered-repaired}
 use Rattle.repair.proofs.MeaningLaws.{repaired-satisfied, repaired-figure}
 use Rattle.repair.proofs.ReadBack.{same-prefix}
 use Rattle.repair.proofs.AnswerLaws.{answered-repair, repair-answers}
@@ -49,6 +52,7 @@ module _ (b : List ℕ) (a : AcceptedWithin stored-limits b) where
         walked = r .walked;
         in-range = rw (r .clauses-are, r .variable-count-is) (repaired-in-range (variable-count b) (clauses b) (a .in-range));
         ordered = rw (r .clauses-are) (repaired-ordered (clauses b));
+        no-copies = rw (r .clauses-are) (first-copy-iff equal (repaired (clauses b)) .1 (repaired-no-copies (clauses b)));
         well-formed = rw prefix-is (a .well-formed);
         bounded = rw prefix-is (a .bounded);
       }
@@ -59,22 +63,25 @@ module _ (b : List ℕ) (a : AcceptedWithin stored-limits b) where
       let same : figure-of d ≡ figure-of b = rw (repaired-reads b a .clauses-are, prefix-is) (repaired-figure (clauses b) (prefix b) (rw (prefix-length b) (a .in-range))) in
       rw (accepted-answers d accepted) (λ j. answer (record { figure = same j; whole = denominator (prefix-is j) }))
 
-  -- the new clauses are in order, so that nothing is left to do
+  -- the new clauses are in order and without copies, so that nothing is left to do
   in-order : some-of unordered (clauses d) ≡ false
   in-order = accepted .ordered
+
+  distinct : NoCopies equal (clauses d)
+  distinct = first-copy-iff equal (clauses d) .0 (accepted .no-copies)
 
   itself : repaired-file d ≡ d
   unfolding repaired-file
   itself =
       let r = repaired-reads b a in
-      λ j. rule-bytes ((ordered-repaired (clauses d) in-order ∙ r .clauses-are) j) (r .variable-count-is j) (r .weights-are j)
+      λ j. rule-bytes ((ordered-repaired (clauses d) in-order distinct ∙ r .clauses-are) j) (r .variable-count-is j) (r .weights-are j)
 
   again : (capacity : ℕ) → length d ≤ capacity → repair-file d capacity ≡ answer d
   again capacity h = repair-answers d capacity (stored-accepts d accepted) h ∙ ap answer itself
 
   nothing : (capacity : ℕ) → length d ≤ capacity → repair-answer d capacity ≡ answer (record { bytes = length d; clauses = 0; literals = 0; reordered = 0 })
   unfolding repair-answer
-  nothing capacity h = rw (again capacity h) (ap answer (sym (in-order-counts d in-order)))
+  nothing capacity h = rw (again capacity h) (ap answer (sym (in-order-counts d in-order distinct)))
 
   repaired-to : RepairedTo b d
   repaired-to =

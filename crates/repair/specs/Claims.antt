@@ -14,8 +14,8 @@ use Rattle.repair.specs.File.{weights}
 use Rattle.repair.specs.Repair.{repair-file, repair-answer}
 
 -- an assignment of all variables meets the new clauses exactly when it meets the old; variables and weights are the
--- same; the reader accepts the new file, and its figure is document 01's rule on the old clauses; it is not longer; and
--- repaired again it is the same, with nothing to count
+-- same; the reader accepts the new file, and its figure is document 01's rule on the old clauses, whether the reader
+-- accepts the old file or not; it is not longer; and repaired again it is the same, with nothing to count
 pub record RepairedTo (b d : List ℕ) : Type 0 where
   pub same-assignments : (p : List ℕ) → length p ≡ variable-count b → Met p (clauses d) ↔ Met p (clauses b)
   pub same-variables : variable-count d ≡ variable-count b

@@ -13,16 +13,16 @@ use Rattle.words.proofs.WalkLaws.{first-none, none-first-place}
 use Rattle.words.proofs.WordsLaws.{right-length}
 use Rattle.rule_file.specs.ReaderLimits.{full-limits, stored-limits}
 use Rattle.rule_file.specs.RuleFile.{clauses}
-use Rattle.rule_file.specs.Reader.{reading, read-file, read-within, read-from-3, read-from-5, read-from-6, read-from-8, asked}
+use Rattle.rule_file.specs.Reader.{reading, read-file, read-within, read-from-3, read-from-5, read-from-6, read-from-26, read-from-8, asked}
 use Rattle.rule_file.specs.Accepted.{AcceptedWithin, Accepted, header}
 use Rattle.rule_file.specs.declared.Limits.{Limits}
 use Rattle.rule_file.specs.declared.Header.{Header}
 use Rattle.rule_file.specs.declared.Reading.{Reading}
 use Rattle.rule_file.specs.declared.Reading.the-variants as reading-variants
-use Rattle.rule_file.proofs.ReaderLaws.{check-2, check-3, check-4, check-9, asked-once, not-asked}
+use Rattle.rule_file.proofs.ReaderLaws.{check-2, check-3, check-4, check-9, asked-once, not-asked, copies-not-asked}
 
 pub answered-within : (limits : Limits) (b : List ℕ) (h : Header) → read-within limits b ≡ answer h → AcceptedWithin limits b × (h ≡ header b)
-unfolding read-within read-from-3 read-from-5 read-from-6 read-from-8
+unfolding read-within read-from-3 read-from-5 read-from-6 read-from-26 read-from-8
 answered-within limits b h e =
     let (e₁, r₁) = passed _ _ _ h e in
     let (e₂, r₂) = passed _ _ _ h r₁ in
@@ -32,7 +32,8 @@ answered-within limits b h e =
     let (e₆, r₆) = passed-at _ _ _ h r₅ in
     let (_, r₇) = passed-at (first (asked (limits .ordered) repeats) (clauses b)) 7 _ h r₆ in
     let (e₂₃, r₂₃) = passed-at _ _ _ h r₇ in
-    let (e₈, r₈) = passed-at _ _ _ h r₂₃ in
+    let (e₂₆, r₂₆) = passed-at _ _ _ h r₂₃ in
+    let (e₈, r₈) = passed-at _ _ _ h r₂₆ in
     let (e₉, r₉) = passed _ _ _ h r₈ in
     let counts = check-3 _ b .0 e₃ in (
       record {
@@ -44,6 +45,7 @@ answered-within limits b h e =
         walked = e₅;
         in-range = first-none _ _ e₆;
         ordered = first-none _ _ e₂₃;
+        no-copies = e₂₆;
         well-formed = first-none _ _ e₈;
         bounded = check-9 b .0 e₉;
       },
@@ -51,7 +53,7 @@ answered-within limits b h e =
     )
 
 pub within-answers : (limits : Limits) (b : List ℕ) → AcceptedWithin limits b → read-within limits b ≡ answer (header b)
-unfolding read-within read-from-3 read-from-5 read-from-6 read-from-8
+unfolding read-within read-from-3 read-from-5 read-from-6 read-from-26 read-from-8
 within-answers limits b a =
     rw (
       right-length rule-trailer _ b .1 (a .right-length),
@@ -62,6 +64,7 @@ within-answers limits b a =
       none-first-place _ _ (a .in-range),
       none-first-place _ _ (asked-once (limits .ordered) (clauses b) (a .ordered)),
       none-first-place _ _ (a .ordered),
+      a .no-copies,
       none-first-place _ _ (a .well-formed),
       check-9 b .1 (a .bounded),
     )
@@ -87,6 +90,7 @@ stored-accepts b a =
       walked = a .walked;
       in-range = a .in-range;
       ordered = first-none _ _ (not-asked unordered (clauses b));
+      no-copies = copies-not-asked (clauses b);
       well-formed = a .well-formed;
       bounded = a .bounded;
     }

@@ -1,33 +1,37 @@
 -- The reader's answer, one check at a time: checks 1 to 4 and 9 with the fact that each decides, then what checks 5 to
--- 8 speak of by the counts that a Trailer holds, and 6, 7 and 23 at once. What the checks over clauses and variables
--- say is in ClauseLaws and PrefixLaws. Assumes nothing.
+-- 8 speak of by the counts that a Trailer holds, 6, 7 and 23 at once, and what is left after 4 and after 23. What the
+-- checks over clauses and variables say is in ClauseLaws and PrefixLaws. Assumes nothing.
 use mathlib.Core.Path.{_≡_, refl, ap, subst}
 use mathlib.Core.Bool.{Bool, true, false}
 use mathlib.Core.List.{List, [], _∷_}
 use mathlib.Core.Option.{none}
 use Prim.Native.Nat.{ℕ, _+_, _-_, _*_, _≤_}
+use native.Mathlib.Omega.{arith}
 use borrow.Author.Tests.{le-ltb, ltb-false}
-use Rattle.formula.specs.Formula.{some-of, out-of-range, repeats, unordered, ill-formed}
+use Rattle.formula.specs.Formula.{some-of, out-of-range, repeats, unordered, ill-formed, equal}
 use Rattle.formula.specs.Quantifier.{denominator}
 use Rattle.formula.proofs.SomeLaws.{or-false, none-implied}
 use Rattle.formula.proofs.OrderLaws.{ordered-no-repeats}
 use Rattle.limits.specs.Limits.{max-clauses, max-whole}
 use Rattle.answer.specs.Answer.{Answer, refused}
 use Rattle.answer.specs.declared.Refusal.{Refusal}
-use Rattle.words.specs.Walk.{first}
+use Rattle.words.specs.Walk.{first, first-copy}
 use Rattle.words.specs.Words.{word-count, stated-count}
 use Rattle.words.proofs.WalkLaws.{first-none, none-first-place, first-either}
+use Rattle.words.proofs.FirstCopyLaws.{none-same}
 use Rattle.words.proofs.WordsLaws.{Decides, differs}
 use Rattle.prefix_words.specs.Prefix.{prefix-from, malformed}
 use Rattle.clause_words.specs.Clauses.{clauses-from, walk-clauses}
 use Rattle.clause_words.specs.ClauseChecks.{clause-fails}
 use Rattle.clause_words.specs.declared.ClauseCheck.the-variants.{OutOfRange, Repeats, IllFormed}
+use Rattle.clause_words.proofs.ClauseLaws.{walked-clause}
+use Rattle.copies.specs.Copies.{InOrder}
 use Rattle.rule_file.specs.RuleFile.{clause-count, variable-count, prefix-start, clauses, prefix, whole}
-use Rattle.rule_file.specs.Checks.{Trailer, TrailerRead}
+use Rattle.rule_file.specs.Checks.{Trailer, AfterChecks}
 use Rattle.rule_file.specs.declared.Header.{Header}
 use Rattle.rule_file.specs.declared.TrailerReading.{TrailerReading}
 use Rattle.rule_file.specs.declared.TrailerReading.the-variants as trailer-reading
-use Rattle.rule_file.specs.Reader.{wrong-count, too-many, wrong-prefix, too-large, asked, read-from-5}
+use Rattle.rule_file.specs.Reader.{wrong-count, too-many, wrong-prefix, too-large, asked}
 
 pub check-2 : (b : List ℕ) → Decides (wrong-count b) (stated-count b ≡ word-count b)
 unfolding wrong-count
@@ -63,6 +67,19 @@ module _ (b : List ℕ) (m n start : ℕ) (t : Trailer b m n start) where
   unfolding clause-fails
   check-literals = rw (← (t .variable-count-is), ← (t .clause-count-is))
 
+  pub check-26 : first-copy equal (clauses b) ≡ first-copy equal (clauses-from b m 0)
+  check-26 = rw (← (t .clause-count-is))
+
+  -- what 5, 6, 7 and 23 leave for 26
+  pub read-in-order : walk-clauses b n start m 0 ≡ none → first (clause-fails n IllFormed) (clauses-from b m 0) ≡ none → InOrder b n m
+  unfolding clause-fails
+  read-in-order walked passed = record {
+    within = record { each = λ j h. omega (arith, walked-clause b n start m walked j h .ends, t .ends) };
+    few-variables = t .few-variables;
+    few-clauses = t .few-clauses;
+    well-formed = first-none _ _ passed;
+  }
+
   prefix-is : prefix b ≡ prefix-from b n start
   prefix-is = rw (← (t .variable-count-is), ← (t .prefix-start-is))
 
@@ -87,6 +104,10 @@ unfolding first
 not-asked f [] = refl
 not-asked f (c ∷ φ) = rw (not-asked f φ)
 
+-- nor does the search for a copy
+pub copies-not-asked : (φ : List (List ℕ)) → first-copy (λ c. asked false (equal c)) φ ≡ none
+copies-not-asked = none-same _ (λ _ _. refl) []
+
 -- 6, 7 and 23 at once: where no clause is ill-formed each is in order, and all three pass
 module _ (n : ℕ) (φ : List (List ℕ)) where
   pub well-formed-ordered : some-of (ill-formed n) φ ≡ false → some-of unordered φ ≡ false
@@ -108,10 +129,10 @@ module _ (n : ℕ) (φ : List (List ℕ)) where
   unfolding ill-formed
   ill-formed-unordered e = first-either (out-of-range n) unordered φ (first-none (out-of-range n) φ e)
 
--- what checks 1 to 4 leave, for a caller that goes by the case of it
-module _ (b : List ℕ) (ordered : Bool) (whole : Answer Header) {r : TrailerReading} (e : TrailerRead b ordered whole r) where
-  pub trailer-refused : {k : Refusal} → r ≡ trailer-reading.Refused k → whole ≡ refused k
-  trailer-refused c = subst (TrailerRead b ordered whole) c e
+-- what checks leave, for a caller that goes by the case of it
+module _ (known : ℕ → ℕ → ℕ → Type 0) (whole : Answer Header) {r : TrailerReading} (e : AfterChecks known whole r) where
+  pub checks-refused : {k : Refusal} → r ≡ trailer-reading.Refused k → whole ≡ refused k
+  checks-refused c = subst (AfterChecks known whole) c e
 
-  pub trailer-passed : {m n start : ℕ} → r ≡ trailer-reading.Passed m n start → Trailer b m n start × (whole ≡ read-from-5 ordered b)
-  trailer-passed c = subst (TrailerRead b ordered whole) c e
+  pub checks-passed : {m n start : ℕ} → r ≡ trailer-reading.Passed m n start → known m n start
+  checks-passed c = subst (AfterChecks known whole) c e

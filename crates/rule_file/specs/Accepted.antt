@@ -5,8 +5,9 @@ use mathlib.Core.Bool.{false}
 use mathlib.Core.List.{List}
 use mathlib.Core.Option.{none}
 use Prim.Native.Nat.{ℕ, _+_, _-_, _*_, _≤_}
-use Rattle.formula.specs.Formula.{some-of, out-of-range, unordered}
+use Rattle.formula.specs.Formula.{some-of, out-of-range, unordered, equal}
 use Rattle.limits.specs.Limits.{rule-trailer, max-clauses, max-whole}
+use Rattle.words.specs.Walk.{first-copy}
 use Rattle.words.specs.Words.{word-count, stated-count, Length}
 use Rattle.prefix_words.specs.Prefix.{malformed}
 use Rattle.clause_words.specs.Clauses.{walk-clauses}
@@ -16,8 +17,8 @@ use Rattle.rule_file.specs.Reader.{asked}
 use Rattle.rule_file.specs.declared.Limits.{Limits}
 use Rattle.rule_file.specs.declared.Header.{Header}
 
--- 7 leaves nothing besides: where variables rise, none stands twice. Nothing is left of 7 and 23 where they are not
--- asked
+-- 7 leaves nothing besides: where variables rise, none stands twice. Nothing is left of 7, 23 and 26 where they are
+-- not asked
 pub record AcceptedWithin (limits : Limits) (b : List ℕ) : Type 0 where
   pub right-length : Length rule-trailer (limits .bytes) b
   pub right-count : stated-count b ≡ word-count b
@@ -27,6 +28,7 @@ pub record AcceptedWithin (limits : Limits) (b : List ℕ) : Type 0 where
   pub walked : walk-clauses b (variable-count b) (prefix-start b) (clause-count b) 0 ≡ none
   pub in-range : some-of (out-of-range (variable-count b)) (clauses b) ≡ false
   pub ordered : some-of (asked (limits .ordered) unordered) (clauses b) ≡ false
+  pub no-copies : first-copy (λ c. asked (limits .ordered) (equal c)) (clauses b) ≡ none
   pub well-formed : some-of malformed (prefix b) ≡ false
   pub bounded : whole b ≤ max-whole
 

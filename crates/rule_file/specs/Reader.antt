@@ -1,15 +1,15 @@
 -- The reader's answer for every file: the documents' checks in their order, each over the whole file before the next. A
 -- check over clauses names the first clause at fault, and one over the prefix the first variable. One chain of checks
--- for any limits, and three readers: the full one, the small one, and the one of stored files, which leaves out 7 and
--- 23. Assumes nothing.
+-- for any limits, and three readers: the full one, the small one, and the one of stored files, which leaves out 7, 23
+-- and 26. Assumes nothing.
 use Prim.Native.Nat.{ℕ, _+_, _-_, _*_}
 use mathlib.Core.Bool.{Bool, not, _&&_, _||_}
 use mathlib.Core.List.{List}
 use lib.Dec.{ltb, eqb}
-use Rattle.formula.specs.Formula.{out-of-range, repeats, unordered}
+use Rattle.formula.specs.Formula.{out-of-range, repeats, unordered, equal}
 use Rattle.limits.specs.Limits.{rule-trailer, max-clauses, max-whole}
 use Rattle.answer.specs.Answer.{Answer, refused, answer, refuse-if, refuse-at}
-use Rattle.words.specs.Walk.{first}
+use Rattle.words.specs.Walk.{first, first-copy}
 use Rattle.words.specs.Words.{word-count, wrong-length, stated-count}
 use Rattle.prefix_words.specs.Prefix.{malformed}
 use Rattle.clause_words.specs.Clauses.{walk-clauses}
@@ -33,7 +33,8 @@ unfoldable pub wrong-prefix : List ℕ → Bool
 wrong-prefix b = not (eqb (prefix-start b + 2 * variable-count b) (word-count b - 4))
 
 -- 5 is walk-clauses; 6 is out-of-range, a literal of 2n or more; 7 is repeats, a variable twice; 23 is unordered,
--- variables that do not rise; 8 is malformed. 9: the whole is over 2^60
+-- variables that do not rise; 26 is a first copy, a clause that equals an earlier one; 8 is malformed. 9: the whole is
+-- over 2^60
 unfoldable pub too-large : List ℕ → Bool
 too-large b = ltb max-whole (whole b)
 
@@ -44,16 +45,19 @@ read-from-8 b =
     (refuse-if (too-large b) 9
     (answer (record { variables = variable-count b; clauses = clause-count b; prefix = prefix-start b; whole = whole b })))
 
--- 7 and 23 only where clauses must be in order
+-- 7, 23 and 26 only where clauses must be in order
 abbrev pub asked : Bool → (List ℕ → Bool) → List ℕ → Bool
 asked ordered f c = ordered && f c
+
+unfoldable pub read-from-26 : Bool → List ℕ → Answer Header
+read-from-26 ordered b = refuse-at (first-copy (λ c. asked ordered (equal c)) (clauses b)) 26 (read-from-8 b)
 
 unfoldable pub read-from-6 : Bool → List ℕ → Answer Header
 read-from-6 ordered b =
     refuse-at (first (out-of-range (variable-count b)) (clauses b)) 6
     (refuse-at (first (asked ordered repeats) (clauses b)) 7
     (refuse-at (first (asked ordered unordered) (clauses b)) 23
-    (read-from-8 b)))
+    (read-from-26 ordered b)))
 
 unfoldable pub read-from-5 : Bool → List ℕ → Answer Header
 read-from-5 ordered b =

@@ -10,6 +10,6 @@ full-limits = record { bytes = max-bytes; variables = max-variables; ordered = t
 abbrev pub small-limits : Limits
 small-limits = record { bytes = small-bytes; variables = small-variables; ordered = true }
 
--- what a repair takes: the full reader's limits, with the literals of a clause in any order
+-- what a repair takes: the full reader's limits, with the literals of a clause in any order and copies of clauses
 abbrev pub stored-limits : Limits
 stored-limits = record { bytes = max-bytes; variables = max-variables; ordered = false }

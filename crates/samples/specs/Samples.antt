@@ -1,6 +1,6 @@
 -- Document 01's samples P1 to P12, the places that document 02 (i) adds to refusals, the derivations that (ii) writes,
--- the order that (iv) asks for, the nodes that (v) calls lost, the limits of (vii) and the repairs of (viii), in one
--- list: each a question to an operation, and the answer that it must give. Assumes nothing.
+-- the order that (iv) asks for, the nodes that (v) calls lost, the limits of (vii), the repairs of (viii) and the
+-- copies of (ix), in one list: each a question to an operation, and the answer that it must give. Assumes nothing.
 use mathlib.Core.List.{List, [], _∷_, _++_}
 use Prim.Native.Nat.{ℕ, _+_, _*_}
 use lib.ListN.{length, replicate}
@@ -208,4 +208,18 @@ samples =
     -- still 5 for {0, 0} over one variable; 6 before 25
     sample (repair (2 ∷ 0 ∷ 0 ∷ 0 ∷ 0 ∷ 1 ∷ 1 ∷ 3 ∷ 9 ∷ []) 36) (counted (refused (At 5 0))) ∷
     sample (repair (over-three 1 (1 ∷ 6 ∷ [])) 0) (counted (refused (At 6 0))) ∷
+    -- 26: {0}, {2}, {2}, {0}, by both readers; two empty clauses; not {0} and {0, 2}
+    sample (figure (1 ∷ 0 ∷ 1 ∷ 2 ∷ 1 ∷ 2 ∷ 1 ∷ 0 ∷ 0 ∷ 0 ∷ 0 ∷ 0 ∷ 4 ∷ 2 ∷ 8 ∷ 16 ∷ [])) (refused-at 26 2) ∷
+    sample (read-by-small (1 ∷ 0 ∷ 1 ∷ 2 ∷ 1 ∷ 2 ∷ 1 ∷ 0 ∷ 0 ∷ 0 ∷ 0 ∷ 0 ∷ 4 ∷ 2 ∷ 8 ∷ 16 ∷ [])) (stated (refused (At 26 2))) ∷
+    sample (figure (0 ∷ 0 ∷ 2 ∷ 0 ∷ 2 ∷ 6 ∷ [])) (refused-at 26 1) ∷
+    sample (figure (1 ∷ 0 ∷ 2 ∷ 0 ∷ 2 ∷ 0 ∷ 0 ∷ 0 ∷ 0 ∷ 2 ∷ 2 ∷ 5 ∷ 13 ∷ [])) (out-of 1 1) ∷
+    -- 23 before it, with {0}, {0} and {2, 0}; and it before 8, with {0} and {0} over weights 0:1
+    sample (figure (1 ∷ 0 ∷ 1 ∷ 0 ∷ 2 ∷ 2 ∷ 0 ∷ 0 ∷ 0 ∷ 0 ∷ 0 ∷ 3 ∷ 2 ∷ 7 ∷ 15 ∷ [])) (refused-at 23 2) ∷
+    sample (figure (1 ∷ 0 ∷ 1 ∷ 0 ∷ 0 ∷ 1 ∷ 2 ∷ 1 ∷ 4 ∷ 10 ∷ [])) (refused-at 26 1) ∷
+    -- a repair of {0}, {2}, {2}, {0}; of {0, 4} and {4, 0, 4}, whose repeat and order do not count with it; of {4, 0}
+    -- and {0, 4}, of which the first stays
+    sample (repair (over-three 4 (1 ∷ 0 ∷ 1 ∷ 2 ∷ 1 ∷ 2 ∷ 1 ∷ 0 ∷ [])) 72) (counts 56 2 0 0) ∷
+    sample (repaired (over-three 4 (1 ∷ 0 ∷ 1 ∷ 2 ∷ 1 ∷ 2 ∷ 1 ∷ 0 ∷ [])) 72) (written-as (over-three 2 (1 ∷ 0 ∷ 1 ∷ 2 ∷ []))) ∷
+    sample (repair (over-three 2 (2 ∷ 0 ∷ 4 ∷ 3 ∷ 4 ∷ 0 ∷ 4 ∷ [])) 68) (counts 52 1 0 0) ∷
+    sample (repair (over-three 2 (2 ∷ 4 ∷ 0 ∷ 2 ∷ 0 ∷ 4 ∷ [])) 64) (counts 52 1 0 1) ∷
     []

@@ -1,6 +1,6 @@
-//! Document 02's repair of stored rule files, which puts literals in order, drops repeats of a literal, and drops
-//! clauses that hold a variable and its opposite: a kept clause becomes the ordered set of its literals, and the file
-//! is made anew from its parts. Besides, document 01's rule over clauses as they stand.
+//! Document 02's repair of stored rule files, which puts literals in order, drops repeats of a literal, drops clauses
+//! that hold a variable and its opposite, and drops the later copies of a clause: a kept clause becomes the ordered set
+//! of its literals, and the file is made anew from its parts. Besides, document 01's rule over clauses as they stand.
 
 use crate::rules::{draft_by, Fault, Quantifier, Reader, RuleDraft, REPAIR};
 use std::collections::BTreeSet;
@@ -49,7 +49,7 @@ pub fn has_opposites(clause: &[u32]) -> bool {
     clause.iter().any(|literal| clause.contains(&(literal ^ 1)))
 }
 
-/// Document 02 on one clause.
+/// Document 02 on one clause by itself.
 pub fn mend(clause: &[u32]) -> Mended {
     if has_opposites(clause) {
         Mended::DROPPED
@@ -58,15 +58,32 @@ pub fn mend(clause: &[u32]) -> Mended {
     }
 }
 
-/// Repairs a rule file for a lent buffer of so many bytes, or gives the refusal.
-pub fn repair(rule: &[u8], capacity: usize) -> Result<Repaired, Fault> {
-    repair_with(REPAIR, mend, rule, capacity)
+/// Drops each clause that has become the same as an earlier one. What it would add to the other counts goes with it.
+pub fn drop_copies(mended: &mut [Mended]) {
+    let mut seen = BTreeSet::new();
+    for clause in mended {
+        if clause.literals.clone().is_some_and(|literals| !seen.insert(literals)) {
+            *clause = Mended::DROPPED;
+        }
+    }
 }
 
-/// The same by another reader, with `mend` to tell what becomes of a clause.
+/// What becomes of each clause, by itself as `mend` tells and then beside the others.
+pub fn mend_all(mend: fn(&[u32]) -> Mended, clauses: &[Vec<u32>]) -> Vec<Mended> {
+    let mut mended: Vec<Mended> = clauses.iter().map(|clause| mend(clause)).collect();
+    drop_copies(&mut mended);
+    mended
+}
+
+/// Repairs a rule file for a lent buffer of so many bytes, or gives the refusal.
+pub fn repair(rule: &[u8], capacity: usize) -> Result<Repaired, Fault> {
+    repair_with(REPAIR, |clauses| mend_all(mend, clauses), rule, capacity)
+}
+
+/// The same by another reader, with `mend` to tell what becomes of each clause.
 pub fn repair_with(
     reader: Reader,
-    mend: fn(&[u32]) -> Mended,
+    mend: impl Fn(&[Vec<u32>]) -> Vec<Mended>,
     rule: &[u8],
     capacity: usize,
 ) -> Result<Repaired, Fault> {
@@ -75,7 +92,7 @@ pub fn repair_with(
     if capacity < rule.len() {
         return Err((25, None));
     }
-    let mended: Vec<Mended> = stored.clauses.iter().map(|clause| mend(clause)).collect();
+    let mended = mend(&stored.clauses);
     let counts = [0, 1, 2].map(|at| mended.iter().map(|clause| clause.counts[at]).sum());
     let clauses = mended.into_iter().filter_map(|clause| clause.literals).collect();
     Ok(Repaired { written: RuleDraft { clauses, ..stored }.bytes(), counts })

@@ -2,12 +2,14 @@
 //! files before they are written.
 
 use crate::{to_bytes, to_words, Literals};
+use std::collections::HashSet;
+use std::hash::Hash;
 
 /// A refusal's number, with the clause, the variable or the line that it names.
 pub type Fault = (u32, Option<usize>);
 
 /// The readers' refusals, in the order of their checks.
-pub const REFUSALS: [u32; 10] = [1, 2, 3, 4, 5, 6, 7, 23, 8, 9];
+pub const REFUSALS: [u32; 11] = [1, 2, 3, 4, 5, 6, 7, 23, 26, 8, 9];
 
 /// The largest whole.
 pub const LARGEST_WHOLE: u128 = 1 << 60;
@@ -105,7 +107,7 @@ pub struct Reader {
     pub bytes: usize,
     pub variables: u32,
     pub clauses: u32,
-    /// Of the checks 6, 7 and 23 those that it leaves out.
+    /// Of the checks 6, 7, 23 and 26 those that it leaves out.
     pub left_out: &'static [u32],
 }
 
@@ -115,8 +117,8 @@ pub const BENCH: Reader = Reader { bytes: 65_536, variables: 32, clauses: 1_024,
 /// The small reader. A file of 4,096 bytes has room for 1,020 clauses, but may claim more.
 pub const SMALL: Reader = Reader { bytes: 4_096, variables: 16, ..BENCH };
 
-/// The repair's reader: what 7 and 23 refuse is what is repaired.
-pub const REPAIR: Reader = Reader { left_out: &[7, 23], ..BENCH };
+/// The repair's reader: what 7, 23 and 26 refuse is what is repaired.
+pub const REPAIR: Reader = Reader { left_out: &[7, 23, 26], ..BENCH };
 
 /// Reads a rule file on the bench or gives its refusal.
 pub fn read(bytes: &[u8]) -> Result<Rules, Fault> {
@@ -200,7 +202,10 @@ fn parts(reader: Reader, len: usize, words: &[u32]) -> Result<Parts<'_>, Fault> 
     refuse(6, lists.iter().position(|list| list.iter().any(|&literal| literal >= 2 * n)))?;
     let sets: Vec<Option<Literals>> = lists.iter().map(|list| set_of(list)).collect();
     refuse(7, sets.iter().position(Option::is_none))?;
-    refuse(23, lists.iter().position(|list| !is_rising(list)))?;
+    let unordered = lists.iter().position(|list| !is_rising(list));
+    refuse(23, unordered)?;
+    // Clauses in order are equal where their sets are, which are compared sooner.
+    refuse(26, if unordered.is_none() { first_copy(&sets) } else { first_copy(&lists) })?;
 
     let mut prefix = Vec::new();
     for (variable, pair) in pairs.chunks_exact(2).enumerate() {
@@ -238,6 +243,12 @@ pub fn set_of(list: &[u32]) -> Option<Literals> {
 /// Whether the variables of these literals rise; then none stands twice.
 pub fn is_rising(list: &[u32]) -> bool {
     list.is_sorted_by(|before, after| before / 2 < after / 2)
+}
+
+/// The number of the first clause that equals an earlier one.
+pub fn first_copy<T: Eq + Hash>(clauses: &[T]) -> Option<usize> {
+    let mut seen = HashSet::with_capacity(clauses.len());
+    clauses.iter().position(|clause| !seen.insert(clause))
 }
 
 /// The clauses of a rule file in order, each with its literals as they stand, or the file's refusal.

@@ -123,6 +123,8 @@ pub fn cases() -> Vec<Case> {
     readings(&mut list);
     places(&mut list);
     unordered(&mut list);
+    copies(&mut list);
+    many_copies(&mut list);
     orders(&mut list);
     wholes(&mut list);
     levels_and_limits(&mut list);
@@ -197,7 +199,7 @@ fn sample_file(list: &mut List) {
     list.figure("p6", &RuleDraft::new(both, &[[0, 0], [1, 1]]), 1, 2);
 }
 
-/// Each of the reader's refusals but 23 on both sides of its border.
+/// Each of the reader's refusals but 23 and 26 on both sides of its border.
 fn readings(list: &mut List) {
     // 1: length.
     let empty = [0, 0, 0, 4];
@@ -226,10 +228,12 @@ fn readings(list: &mut List) {
     list.figure("n-32-figure", &all(32, [0, 0]), 1, 1);
     list.refused("n-33", &all(33, [0, 0]).words(), 3, &[]);
     list.refused("n-2^31", &[0, 1 << 31, 0, 4], 3, &[]);
-    let many = |m: usize| RuleDraft { clauses: vec![Vec::new(); m], prefix: Vec::new() };
-    list.read("m-1024", &many(1_024).words(), 0, &[0, 1_024, 1_024, 1]);
-    list.figure("m-1024-figure", &many(1_024), 0, 1);
-    list.refused("m-1025", &many(1_025).words(), 3, &[]);
+    let many = |m: usize| distinct_clauses(m, 1);
+    list.read("m-1024", &many(1_024).words(), 0, &[32, 1_024, 4_096, 1]);
+    list.figure("m-1024-figure", &many(1_024), 1, 1);
+    list.read("m-1025-distinct", &many(1_025).words(), 3, &[]);
+    let empty = RuleDraft { clauses: vec![Vec::new(); 1_025], prefix: Vec::new() };
+    list.refused("m-1025", &empty.words(), 3, &[]);
     list.refused("m-2^32-1", &[u32::MAX, 0, 0, 4], 3, &[]);
 
     // 4: the prefix start.
@@ -338,19 +342,19 @@ fn places(list: &mut List) {
     list.refused("variable-twice-in-3", &rule(&[&[0], &[2, 4], &[], &[1, 5, 0], &[3]]).words(), 7, &[3]);
     list.refused("variable-twice-in-0-literal-of-3", &rule(&[&[0, 1], &[2, 4], &[], &[6], &[3]]).words(), 6, &[3]);
 
-    // The last of 1,024 clauses; all others are empty.
+    // The last of 1,024 clauses, at word 4,092; the others have three literals each.
     let last = |clause: &[u32]| {
-        let mut clauses = vec![Vec::new(); 1_023];
-        clauses.push(clause.to_vec());
-        RuleDraft { clauses, prefix: vec![[0, 0]; 3] }.words()
+        let mut rule = distinct_clauses(1_023, 1);
+        rule.clauses.push(clause.to_vec());
+        rule.words()
     };
-    list.read("last-of-1024", &last(&[0, 3]), 0, &[3, 1_024, 1_026, 1]);
-    list.read("last-of-1024-k-over-n", &last(four), 5, &[1_023]);
-    list.read("last-of-1024-reaches-past", &with(&last(&[0]), 1_023, 2), 5, &[1_023]);
-    let missing = RuleDraft { clauses: vec![Vec::new(); 1_023], prefix: Vec::new() }.words();
-    list.read("last-of-1024-past-the-start", &with(&missing, 1_023, 1_024), 5, &[1_023]);
+    list.read("last-of-1024", &last(&[0, 3]), 0, &[32, 1_024, 4_095, 1]);
+    list.read("last-of-1024-k-over-n", &last(&[0; 33]), 5, &[1_023]);
+    list.read("last-of-1024-reaches-past", &with(&last(&[0]), 4_092, 2), 5, &[1_023]);
+    let missing = distinct_clauses(1_023, 1).words();
+    list.read("last-of-1024-past-the-start", &with(&missing, 4_156, 1_024), 5, &[1_023]);
     list.read("end-after-1024", &loose(last(&[0, 3])), 5, &[1_024]);
-    list.read("last-of-1024-literal", &last(&[0, 6]), 6, &[1_023]);
+    list.read("last-of-1024-literal", &last(&[0, 64]), 6, &[1_023]);
     list.read("last-of-1024-variable-twice", &last(&[0, 1]), 7, &[1_023]);
     list.read("last-of-1024-unordered", &last(&[3, 0]), 23, &[1_023]);
 
@@ -383,7 +387,7 @@ fn unordered(list: &mut List) {
     list.refused("last-literal-first", &words(&[&[5, 1, 2]]), 23, &[0]);
     // A clause of one literal or none is in order, and so are clauses that fall one after another.
     list.read("units-falling", &words(&[&[5], &[2], &[0]]), 0, &[3, 3, 6, 1]);
-    list.read("empty-between-falling", &words(&[&[4], &[], &[1], &[]]), 0, &[3, 4, 6, 1]);
+    list.read("empty-between-falling", &words(&[&[4], &[], &[1]]), 0, &[3, 3, 5, 1]);
     list.read("clauses-falling", &words(&[&[2, 4], &[0, 2]]), 0, &[3, 2, 6, 1]);
 
     // The first clause out of order is named.
@@ -417,6 +421,134 @@ fn unordered(list: &mut List) {
     }
     add("buffer-0", Operation::Derive(0));
     add("buffer-65536", Operation::Derive(65_536));
+}
+
+/// 26 on both sides of its border, what it names, and that each operation tells it before its own refusals.
+fn copies(list: &mut List) {
+    let rule = |clauses: &[&[u32]]| RuleDraft::new(clauses, &[[0, 0]; 3]);
+    let words = |clauses: &[&[u32]]| rule(clauses).words();
+    let [a, b, c]: [&[u32]; 3] = [&[0, 2], &[3], &[2, 4]];
+
+    // The first clause that equals an earlier one is named, wherever the earlier one stands.
+    list.read("clauses-a-b-c", &words(&[a, b, c]), 0, &[3, 3, 8, 1]);
+    list.refused("copies-a-a", &words(&[a, a]), 26, &[1]);
+    list.refused("copies-a-b-a", &words(&[a, b, a]), 26, &[2]);
+    list.refused("copies-a-b-b", &words(&[a, b, b]), 26, &[2]);
+    list.refused("copies-a-b-b-a", &words(&[a, b, b, a]), 26, &[2]);
+    list.refused("copies-a-b-a-b", &words(&[a, b, a, b]), 26, &[2]);
+    list.refused("copies-a-b-c-a", &words(&[a, b, c, a]), 26, &[3]);
+    list.refused("copies-a-b-c-b", &words(&[a, b, c, b]), 26, &[3]);
+    list.refused("copies-a-b-c-c", &words(&[a, b, c, c]), 26, &[3]);
+    list.refused("copies-a-a-a", &words(&[a, a, a]), 26, &[1]);
+    list.refused("copies-a-b-a-c-a", &words(&[a, b, a, c, a]), 26, &[2]);
+
+    // Empty clauses are equal.
+    list.read("empty-clause-once", &words(&[&[], a]), 0, &[3, 2, 4, 1]);
+    list.refused("empty-clause-twice", &words(&[&[], &[]]), 26, &[1]);
+    list.refused("empty-clause-twice-apart", &words(&[a, &[], b, &[]]), 26, &[3]);
+    list.read("empty-clause-once-n-0", &[0, 1, 0, 1, 5], 0, &[0, 1, 1, 1]);
+    list.refused("empty-clause-twice-n-0", &[0, 0, 2, 0, 2, 6], 26, &[1]);
+
+    // All literals are compared, each with its sign, and the number of them.
+    list.read("clauses-begin-alike", &words(&[&[0], &[0, 2], &[0, 2, 4], &[0, 4]]), 0, &[3, 4, 12, 1]);
+    list.read("clauses-begin-alike-falling", &words(&[&[0, 4], &[0, 2, 4], &[0, 2], &[0]]), 0, &[3, 4, 12, 1]);
+    list.read("clauses-end-alike", &words(&[&[4], &[2, 4], &[0, 4], &[0, 2, 4]]), 0, &[3, 4, 12, 1]);
+    let signs: [&[u32]; 8] =
+        [&[0, 2, 4], &[1, 2, 4], &[0, 3, 4], &[1, 3, 4], &[0, 2, 5], &[1, 2, 5], &[0, 3, 5], &[1, 3, 5]];
+    list.read("clauses-of-all-signs", &words(&signs), 0, &[3, 8, 32, 1]);
+    list.refused("copy-after-all-signs", &words(&[&signs[..], &[signs[5]]].concat()), 26, &[8]);
+    list.refused("copy-of-one-literal", &words(&[&[1], &[0], &[1]]), 26, &[2]);
+    list.refused("copy-of-all-variables", &words(&[&[1, 2, 5], &[1, 2, 4], &[1, 2, 5]]), 26, &[2]);
+
+    // The same literals in another order are 23's fault, and so are copies out of order.
+    list.refused("copy-in-another-order", &words(&[&[0, 2], &[2, 0]]), 23, &[1]);
+    list.refused("copy-in-another-order-first", &words(&[&[2, 0], &[0, 2]]), 23, &[0]);
+    list.refused("copies-out-of-order", &words(&[&[2, 0], &[2, 0]]), 23, &[0]);
+    list.refused("copies-with-repeats", &words(&[&[2, 2], &[2, 2]]), 7, &[0]);
+    list.refused("copies-with-opposites", &words(&[&[3], &[2, 3], &[2, 3]]), 7, &[1]);
+
+    // The two checks before it and the two after, in one file with it. A file without copies is on the other side.
+    list.refused("order-5-26", &words(&[a, a, &[0, 2, 4, 1]]), 5, &[2]);
+    list.refused("order-6-26", &words(&[a, a, &[6]]), 6, &[2]);
+    list.refused("order-7-26", &words(&[a, a, &[2, 3]]), 7, &[2]);
+    list.refused("order-7-26-twice-first", &words(&[&[2, 2], a, a]), 7, &[0]);
+    list.refused("order-23-26", &words(&[a, a, &[4, 2]]), 23, &[2]);
+    list.refused("order-23-26-unordered-first", &words(&[&[4, 2], a, a]), 23, &[0]);
+    let weights = |clauses: &[&[u32]], pair| RuleDraft::new(clauses, &[[1, 1], [1, 1], pair]).words();
+    list.refused("order-26-8", &weights(&[a, b, a], [1, 0]), 26, &[2]);
+    list.refused("order-26-8-distinct", &weights(&[a, b, c], [1, 0]), 8, &[2]);
+    let large = |clauses: &[&[u32]]| RuleDraft::new(clauses, &[[32_768, 32_768]; 4]).words();
+    list.refused("order-26-9", &large(&[b, a, a]), 26, &[2]);
+    list.refused("order-26-9-distinct", &large(&[b, a, c]), 9, &[]);
+
+    // Limits, levels, derivations and buffers, those that would be refused without the copy too and those that would
+    // not: the sample with its first clause twice.
+    let mut twice = sample().0;
+    twice.clauses.insert(1, vec![0, 2]);
+    let steps = sample().1.words();
+    let mut add = |name: &str, operation| list.add(format!("copy-{name}"), &twice.bytes(), operation, 26, &[1]);
+    add("read", Operation::Read);
+    add("figure", Operation::Figure);
+    add("limits", Operation::Verdict(12, 12));
+    add("lo-over-hi", Operation::Verdict(13, 12));
+    add("hi-over-whole", Operation::Verdict(0, 51));
+    add("level-0", Operation::Cut(0));
+    add("level-n+1", Operation::Cut(4));
+    add("steps", Operation::Check(to_bytes(&steps)));
+    add("steps-length-0", Operation::Check(Vec::new()));
+    for (name, at, word) in [("14", 41, 43), ("15", 0, 3), ("16", 2, 6), ("17", 4, 4), ("18", 13, 3), ("21", 40, 11)] {
+        add(&format!("steps-{name}"), Operation::Check(to_bytes(&with(&steps, at, word))));
+    }
+    add("buffer-0", Operation::Derive(0));
+    add("buffer-65536", Operation::Derive(65_536));
+    // Clause numbers move where the copy goes: the old file's derivation names a clause 3.
+    let moved = with(&with(&with(&steps, 15, 6), 22, 4), 30, 4);
+    add("steps-moved", Operation::Check(to_bytes(&moved)));
+    list.check("copy-gone-steps-moved", &sample().0, &moved, 18, &[1]);
+}
+
+/// 26 over many clauses and long ones.
+fn many_copies(list: &mut List) {
+    // All clauses of one literal over 32 variables, then one of them again.
+    let units = |last: &[u32]| {
+        let mut clauses: Vec<Vec<u32>> = (0..64).map(|literal| vec![literal]).collect();
+        clauses.extend(last.iter().map(|literal| vec![*literal]));
+        RuleDraft { clauses, prefix: vec![[0, 0]; 32] }.words()
+    };
+    list.read("units-64", &units(&[]), 0, &[32, 64, 128, 1]);
+    for literal in [0, 31, 32, 62, 63] {
+        list.read(&format!("units-64-and-{literal}"), &units(&[literal]), 26, &[64]);
+    }
+
+    // Two clauses of 32 literals: equal, but for the sign of one literal, and but for one literal.
+    let wide = |second: Vec<u32>| RuleDraft { clauses: vec![all_variables(), second], prefix: vec![[1, 1]; 32] };
+    list.refused("copy-of-32-literals", &wide(all_variables()).words(), 26, &[1]);
+    for at in [0, 15, 16, 31] {
+        let mut literals = all_variables();
+        literals[at] ^= 1;
+        list.read(&format!("32-literals-but-sign-{at}"), &wide(literals.clone()).words(), 0, &[32, 2, 66, 1 << 32]);
+        literals.remove(at);
+        list.read(&format!("32-literals-but-{at}"), &wide(literals).words(), 0, &[32, 2, 65, 1 << 32]);
+    }
+
+    // 1,024 clauses of three literals, with copies of some in the place of later ones; the first is named.
+    let many = |copies: &[(usize, usize)]| {
+        let mut rule = distinct_clauses(1_024, 1);
+        copies.iter().for_each(|&(from, to)| rule.clauses[to] = rule.clauses[from].clone());
+        rule.words()
+    };
+    for (from, to) in [(0, 1), (0, 1_023), (1, 1_023), (1_022, 1_023), (0, 511), (511, 512), (512, 1_022)] {
+        list.read(&format!("copy-of-{from}-at-{to}-of-1024"), &many(&[(from, to)]), 26, &[to as u64]);
+    }
+    list.read("copies-at-700-and-1023-of-1024", &many(&[(0, 1_023), (699, 700)]), 26, &[700]);
+    list.read("copies-at-1-and-1023-of-1024", &many(&[(5, 1_023), (0, 1)]), 26, &[1]);
+    let empty = RuleDraft { clauses: vec![Vec::new(); 1_024], prefix: Vec::new() };
+    list.refused("empty-clauses-1024", &empty.words(), 26, &[1]);
+
+    // The longest file: the clauses from 970 on have 14 literals each.
+    let mut longest = longest_rule([0, 0]);
+    longest.clauses[1_023] = longest.clauses[970].clone();
+    list.read("length-65536-copy", &longest.words(), 26, &[1_023]);
 }
 
 /// Two faults in one file: the one that is looked for first is told.
@@ -453,7 +585,7 @@ fn orders(list: &mut List) {
         let rule = RuleDraft::new(&[clause], &[[0, 0]; 3]);
         list.refused(&format!("order-7-23-one-clause-{name}"), &rule.words(), 7, &[0]);
     }
-    let rule = RuleDraft::new(&[&[0, 2], &[2, 0]], &[[65_535, 65_535]; 4]);
+    let rule = RuleDraft::new(&[&[0, 2], &[3, 0]], &[[65_535, 65_535]; 4]);
     list.refused("order-23-9", &rule.words(), 23, &[1]);
     list.refused("order-23-9-sorted", &sorted(&rule).words(), 9, &[]);
 }
@@ -539,12 +671,12 @@ fn clashes(list: &mut List) {
     let two = |clauses: &[&[u32]]| RuleDraft::new(clauses, &[[1, 2], [3, 4]]);
     let lost = [0; 3];
 
-    // Opposite literals, the same one twice, and both.
+    // Opposite literals, the same one in two clauses where variable 0 is false, and both.
     list.cuts("clash", &one(&[&[0], &[1]]), &[lost, lost]);
     list.cuts("clash-opposite-first", &one(&[&[1], &[0]]), &[lost, lost]);
-    list.cuts("no-clash-same", &one(&[&[0], &[0]]), &[[0, 4, 4], [3, 3, 0]]);
-    list.cuts("no-clash-same-opposite", &one(&[&[1], &[1]]), &[[0, 4, 4], [1, 1, 0]]);
-    list.cuts("clash-beside-same", &one(&[&[0], &[0], &[1]]), &[lost, lost]);
+    list.cuts("no-clash-same", &two(&[&[0, 2], &[2]]), &[[0, 21, 21], [0, 21, 21], [9, 9, 0]]);
+    list.cuts("no-clash-same-opposite", &two(&[&[0, 3], &[3]]), &[[0, 21, 21], [0, 21, 21], [12, 12, 0]]);
+    list.cuts("clash-beside-same", &two(&[&[0, 2], &[2], &[3]]), &[lost, lost, lost]);
 
     // One variable, the next one or a later one, and two variables. Literals 1 and 2 stand side by side.
     list.cuts("clash-next", &two(&[&[0], &[1], &[2]]), &[lost, lost, lost]);
@@ -571,7 +703,7 @@ fn clashes(list: &mut List) {
     // No clauses, and an empty clause beside two that clash and two that do not.
     list.cuts("no-clash-no-clauses", &two(&[]), &[[21, 21, 0], [21, 21, 0], [21, 21, 0]]);
     list.cuts("clash-beside-empty", &two(&[&[2], &[], &[3]]), &[lost, lost, lost]);
-    list.cuts("no-clash-beside-empty", &two(&[&[2], &[], &[2]]), &[lost, lost, lost]);
+    list.cuts("no-clash-beside-empty", &two(&[&[2], &[], &[0, 2]]), &[lost, lost, lost]);
 
     // At level 2 and not at level 1.
     let later = RuleDraft::new(&[&[0, 2, 4], &[0, 2, 5]], &[[1, 2], [1, 3], [1, 4]]);
@@ -618,7 +750,7 @@ fn far_clashes(list: &mut List) {
     for level in [0, 1, 16, 31, 32] {
         list.cut(format!("clash-last-of-32-cut-{level}"), &last, level, lost);
     }
-    list.cut("no-clash-last-same", &wide(vec![vec![62], vec![62]]), 0, [0, 1, 1]);
+    list.cut("no-clash-last-same", &wide(vec![vec![0, 62], vec![62]]), 31, [0, 1, 1]);
     list.cut("no-clash-last-two", &wide(vec![vec![60], vec![63]]), 0, [0, 1, 1]);
     list.cut("no-clash-last-side-by-side", &wide(vec![vec![61], vec![62]]), 0, [0, 1, 1]);
     // Each variable must be true, or each second one false; then one of them the opposite besides.
@@ -646,8 +778,9 @@ fn far_clashes(list: &mut List) {
     list.cut("clash-at-29-cut-29", &rule, 29, [top - falsified, top - falsified, 0]);
     list.cut("clash-at-29-cut-30", &rule, 30, [top - falsified, top - falsified, 0]);
 
-    // Two of many clauses, wherever they stand: {62} and {63}, or {62} twice, at level 0; at level 1 the same with
-    // literal 0, which is false with weight 2. The others are satisfied there, and open where it is true.
+    // Two of many clauses, wherever they stand: {62} and {63}, or {62} and {0, 62}, at level 0; at level 1 the first
+    // two with literal 0, or one of them, which is false with weight 2. The others are satisfied there, and open where
+    // it is true.
     for (m, a, b) in [(65, 0, 64), (65, 63, 64), (128, 63, 64), (1_024, 0, 1_023), (1_024, 511, 512)] {
         let with = |first: &[u32], second: &[u32]| {
             let mut rule = distinct_clauses(m, 1);
@@ -658,9 +791,9 @@ fn far_clashes(list: &mut List) {
         };
         let name = format!("{a}-and-{b}-of-{m}");
         list.cut(format!("clash-{name}"), &with(&[62], &[63]), 0, lost);
-        list.cut(format!("no-clash-{name}"), &with(&[62], &[62]), 0, [0, 3, 3]);
+        list.cut(format!("no-clash-{name}"), &with(&[62], &[0, 62]), 0, [0, 3, 3]);
         list.cut(format!("clash-{name}-cut-1"), &with(&[0, 62], &[0, 63]), 1, [0, 1, 1]);
-        list.cut(format!("no-clash-{name}-cut-1"), &with(&[0, 62], &[0, 62]), 1, [0, 3, 3]);
+        list.cut(format!("no-clash-{name}-cut-1"), &with(&[0, 62], &[62]), 1, [0, 3, 3]);
     }
 }
 
@@ -1079,21 +1212,25 @@ fn clauses(list: &mut List) {
     list.clauses("clauses-none-of-32", &RuleDraft::new(&[], &[[0, 0]; 32]), &[]);
     list.clauses("clauses-empty", &RuleDraft::new(&[&[]], &[]), &[0]);
     list.clauses("clauses-empty-between", &RuleDraft::new(&[&[0], &[], &[1]], &[[3, 1]]), &[1, 0, 0, 1, 1]);
-    // One clause twice; and literals that fall.
-    let turned = RuleDraft::new(&[&[4, 3, 0], &[0, 2], &[0, 2]], &[[0, 0], [1, 1], [2, 3]]);
-    list.clauses("clauses-one-twice", &sorted(&turned), &[3, 0, 3, 4, 2, 0, 2, 2, 0, 2]);
+    // Literals that fall; and one clause twice.
+    let mut turned = RuleDraft::new(&[&[4, 3, 0], &[0, 2], &[0, 3]], &[[0, 0], [1, 1], [2, 3]]);
+    list.clauses("clauses-three", &sorted(&turned), &[3, 0, 3, 4, 2, 0, 2, 2, 0, 3]);
     list.add("clauses-unordered", &turned.bytes(), Operation::Clauses, 23, &[0]);
+    turned.clauses[2] = vec![0, 2];
+    list.add("clauses-one-twice", &sorted(&turned).bytes(), Operation::Clauses, 26, &[2]);
     // One clause of all variables, rising and falling.
     let falling = RuleDraft { clauses: vec![all_variables().into_iter().rev().collect()], prefix: vec![[1, 1]; 32] };
     let numbers: Vec<u64> = [32].into_iter().chain(all_variables().into_iter().map(u64::from)).collect();
     list.clauses("clauses-32-literals", &sorted(&falling), &numbers);
     list.add("clauses-32-literals-falling", &falling.bytes(), Operation::Clauses, 23, &[0]);
-    // 1,024 clauses, without literals and with one.
-    let empty = RuleDraft { clauses: vec![Vec::new(); 1_024], prefix: Vec::new() };
-    list.clauses("clauses-1024-empty", &empty, &[0; 1_024]);
+    // 1,024 clauses: different ones, those of one literal again and again, and empty ones.
+    let many = distinct_clauses(1_024, 1);
+    let numbers = many.clauses.iter().flat_map(|clause| [3].into_iter().chain(clause.iter().map(|l| u64::from(*l))));
+    list.clauses("clauses-1024", &many, &numbers.collect::<Vec<u64>>());
     let short = RuleDraft { clauses: (0..1_024).map(|at| vec![at % 64]).collect(), prefix: vec![[0, 0]; 32] };
-    let numbers: Vec<u64> = (0..1_024).flat_map(|at| [1, at % 64]).collect();
-    list.clauses("clauses-1024-short", &short, &numbers);
+    list.add("clauses-1024-short", &short.bytes(), Operation::Clauses, 26, &[64]);
+    let empty = RuleDraft { clauses: vec![Vec::new(); 1_024], prefix: Vec::new() };
+    list.add("clauses-1024-empty", &empty.bytes(), Operation::Clauses, 26, &[1]);
 }
 
 /// What the writer writes.
@@ -1108,8 +1245,8 @@ fn written(list: &mut List) {
         }
     }
 
-    // An empty clause closes at once, the first of them.
-    list.derived("derive-empty-clause", &RuleDraft::new(&[&[0], &[], &[1], &[]], &[[3, 1]]), &[0, 2, 3]);
+    // An empty clause closes at once.
+    list.derived("derive-empty-clause", &RuleDraft::new(&[&[0], &[], &[1]], &[[3, 1]]), &[0, 2, 3]);
     list.derived("derive-n-0-falsified", &RuleDraft::new(&[&[]], &[]), &[0, 0, 3]);
     // No clauses: one line without literals, whose value is the whole.
     list.derived("derive-n-0-satisfied", &RuleDraft::new(&[], &[]), &[1, 0, 1, 0, 1, 1, 7]);
@@ -1118,9 +1255,17 @@ fn written(list: &mut List) {
     let none = RuleDraft { clauses: Vec::new(), prefix: vec![[1, 3]; 30] };
     list.derived("derive-whole-2^60", &none, &[1, 0, 0, 1 << 28, 1, 1, 7]);
 
-    // Clause {0} twice: the first is named.
-    let twice = RuleDraft::new(&[&[0], &[0]], &[[3, 1]]);
-    list.derived("derive-clause-twice", &twice, &[1, 1, 1, 1, 0, 2, 0, 3, 0, 0, 1, 0, 2, 3, 15]);
+    // Where both variables are false, both clauses are lost: the first is named.
+    let both = RuleDraft::new(&[&[0, 2], &[2]], &[[3, 1], [1, 1]]);
+    let lines = [
+        &[1, 2, 1, 3, 1, 0][..],
+        &[2, 1, 1, 1, 0, 1, 1, 2],
+        &[1, 2, 0, 3, 1, 0],
+        &[2, 1, 0, 1, 0, 1, 5, 0],
+        &[2, 0, 4, 0, 0, 3, 7],
+        &[5, 9, 38],
+    ];
+    list.derived("derive-first-lost", &both, &lines.concat());
 
     // {2} and {3} are resolved under variable 0's being true, to the empty clause: it serves above, and the false side
     // is skipped. The same below 31 variables.

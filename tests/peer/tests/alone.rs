@@ -1,5 +1,5 @@
-//! The peer by itself: document 01's samples, its methods against each other, and document 02's small reader, job
-//! lists, tallies and repair.
+//! The peer by itself: document 01's samples, its methods against each other, and document 02's order inside a clause,
+//! copies, small reader, job lists, tallies and repair.
 
 use peer::answer::{answer, read_small, repair, Answer};
 use peer::generate::{self, Folder, RuleDraft, Seen};
@@ -12,6 +12,7 @@ use peer::search::{self, Verdict};
 use peer::tables::Tables;
 use peer::writer::{self, DerivationDraft, Limits, LineDraft};
 use peer::{derivation, enumerate, to_bytes, to_words, walk};
+use std::collections::BTreeMap;
 
 fn rules_of(draft: &RuleDraft) -> Rules {
     rules::read(&draft.bytes()).expect("a valid rule file")
@@ -102,12 +103,12 @@ fn clashes() {
     let two = |clauses: &[&[u32]], nodes, cuts: &_| check(clauses, &[[1, 2], [3, 4]], nodes, cuts);
     let lost = [0; 3];
 
-    // Opposite signs, the same sign, and both.
+    // Opposite signs, the same sign where variable 0 is false, and both.
     one(&[&[0], &[1]], 1, &[lost, lost]);
     one(&[&[1], &[0]], 1, &[lost, lost]);
-    one(&[&[0], &[0]], 3, &[[0, 4, 4], [3, 3, 0]]);
-    one(&[&[1], &[1]], 3, &[[0, 4, 4], [1, 1, 0]]);
-    one(&[&[0], &[0], &[1]], 1, &[lost, lost]);
+    two(&[&[0, 2], &[2]], 7, &[[0, 21, 21], [0, 21, 21], [9, 9, 0]]);
+    two(&[&[0, 3], &[3]], 7, &[[0, 21, 21], [0, 21, 21], [12, 12, 0]]);
+    two(&[&[0, 2], &[2], &[3]], 1, &[lost, lost, lost]);
     // Two variables, with the same sign and with opposite ones; literals 1 and 2 stand side by side.
     two(&[&[0], &[2]], 5, &[[0, 21, 21], [0, 7, 7], [3, 3, 0]]);
     two(&[&[0], &[3]], 5, &[[0, 21, 21], [0, 7, 7], [4, 4, 0]]);
@@ -389,6 +390,91 @@ fn unordered_clauses() {
     assert!(refused > 2_000, "{refused} files refused");
 }
 
+/// Copies of clauses are refused by 26, with the first of them; 7 and 23 stand before it, in any clause, 8 and 9 after
+/// it. Without the copies the file is accepted, and it is what the repair makes of it.
+#[test]
+fn copied_clauses() {
+    let mut random = Random::new(16);
+    let fault = |draft: &RuleDraft| rules::read(&draft.bytes()).err();
+    // Files refused, those that have empty clauses twice, and those with a clause of two literals to put out of order.
+    let (mut refused, mut empty, mut unordered) = (0, 0, 0);
+    for _ in 0..6_000 {
+        let draft = generate::small_rule(&mut random, 7);
+        assert_eq!(fault(&draft), None, "{draft:?}");
+        let mut copied = draft.clone();
+        let Some(first) = generate::copy_clauses(&mut random, &mut copied.clauses) else {
+            assert!(draft.clauses.is_empty(), "{draft:?}");
+            continue;
+        };
+        refused += 1;
+        empty += u64::from(copied.clauses[first].is_empty());
+        assert_eq!(fault(&copied), Some((26, Some(first))), "{copied:?}");
+        let n = copied.prefix.len();
+        let mut weights = copied.clone();
+        if n > 0 {
+            weights.prefix[random.below(n)] = [0, 1];
+            assert_eq!(fault(&weights), Some((26, Some(first))), "{weights:?}");
+            weights.prefix.fill([65_535, 65_535]);
+            assert_eq!(fault(&weights), Some((26, Some(first))), "{weights:?}");
+        }
+        let mut turned = copied.clone();
+        if let Some(clause) = generate::unorder(&mut random, turned.clauses.iter_mut()) {
+            unordered += 1;
+            assert_eq!(fault(&turned), Some((23, Some(clause))), "{turned:?}");
+        }
+        if n > 1 {
+            let at = random.below(turned.clauses.len());
+            turned.clauses[at] = vec![2, 2 + random.below(2) as u32];
+            assert_eq!(fault(&turned), Some((7, Some(at))), "{turned:?}");
+        }
+
+        let all = copied.bytes();
+        let repaired = repair::repair(&all, all.len()).expect("a stored rule file");
+        let mut kept = copied.clone();
+        for at in (0..copied.clauses.len()).rev() {
+            if copied.clauses[..at].contains(&copied.clauses[at]) {
+                kept.clauses.remove(at);
+            }
+        }
+        let gone = copied.clauses.len() - kept.clauses.len();
+        assert_eq!(fault(&kept), None, "{kept:?}");
+        assert_eq!((repaired.written, repaired.counts), (kept.bytes(), [gone as u64, 0, 0]), "{copied:?}");
+    }
+    assert!(refused > 4_000 && empty > 100 && unordered > 2_000, "{refused} {empty} {unordered}");
+}
+
+/// Clauses on both sides of 26's border.
+#[test]
+fn equal_clauses() {
+    let check = |clauses: &[&[u32]], copy: Option<usize>| {
+        let draft = RuleDraft::new(clauses, &[[0, 0]; 3]);
+        let fault = copy.map(|copy| (26, Some(copy)));
+        assert_eq!(rules::read(&draft.bytes()).err(), fault, "{clauses:?}");
+        assert_eq!(rules::read_small(&draft.bytes()).err(), fault, "{clauses:?}");
+        assert!(rules::read_by(REPAIR, &draft.bytes()).is_ok(), "{clauses:?}");
+    };
+    let [a, b, c]: [&[u32]; 3] = [&[0, 2], &[3], &[2, 4]];
+    check(&[a, b, c], None);
+    check(&[a, a], Some(1));
+    check(&[a, b, a], Some(2));
+    check(&[a, b, b, a], Some(2));
+    check(&[a, b, c, a], Some(3));
+    check(&[a, a, a], Some(1));
+    // Empty clauses are equal.
+    check(&[&[]], None);
+    check(&[&[], &[]], Some(1));
+    check(&[&[], a, &[]], Some(2));
+    // Other signs, other lengths.
+    check(&[a, &[0, 3], &[1, 2], &[1, 3]], None);
+    check(&[&[0], a, &[0, 2, 4], &[0, 4]], None);
+    check(&[&[0, 2, 4], a, &[0]], None);
+    // 1,024 clauses: the last equals the first.
+    let mut longest = generate::longest_rule([0, 0]);
+    assert!(rules::read(&longest.bytes()).is_ok());
+    longest.clauses[1_023] = longest.clauses[0].clone();
+    assert_eq!(rules::read(&longest.bytes()).err(), Some((26, Some(1_023))));
+}
+
 /// Lines out of order are refused by 16, with the first of them; a resolvent that has a literal less, one more or one
 /// turned to its opposite, by 19.
 #[test]
@@ -481,23 +567,28 @@ fn small_reader() {
     };
     let alike = |file: &[u8], reading| check(file, reading, reading);
     let refused = |code| Err((code, None));
-    // Empty clauses over existential variables.
-    let words = |n: usize, m: usize| RuleDraft { clauses: vec![Vec::new(); m], prefix: vec![[0, 0]; n] }.words();
-    let file = |n, m| to_bytes(&words(n, m));
-    let with = |n, m, from_end: usize, word| {
-        let mut words = words(n, m);
+    // Different clauses of three literals over existential variables, the last perhaps shorter; the prefix begins at
+    // this word.
+    let words = |n: u32, start: usize| {
+        let triples = (0..n).flat_map(|a| (0..a).flat_map(move |b| (0..b).map(move |c| vec![2 * c, 2 * b, 2 * a])));
+        let mut clauses: Vec<Vec<u32>> = triples.take(start.div_ceil(4)).collect();
+        if let Some(last) = clauses.last_mut().filter(|_| !start.is_multiple_of(4)) {
+            last.truncate(start % 4 - 1);
+        }
+        RuleDraft { clauses, prefix: vec![[0, 0]; n as usize] }.words()
+    };
+    let file = |n, start| to_bytes(&words(n, start));
+    let changed = |mut words: Vec<u32>, from_end: usize, word| {
         let at = words.len() - from_end;
         words[at] = word;
         to_bytes(&words)
     };
+    let with = |n, start, from_end, word| changed(words(n, start), from_end, word);
 
-    // Bytes: 4,092, 4,096 and 4,100, with 16 variables and with none.
-    alike(&file(16, 987), Ok([16, 987, 987, 1]));
-    alike(&file(16, 988), Ok([16, 988, 988, 1]));
-    check(&file(16, 989), Ok([16, 989, 989, 1]), refused(1));
-    alike(&file(0, 1_019), Ok([0, 1_019, 1_019, 1]));
-    alike(&file(0, 1_020), Ok([0, 1_020, 1_020, 1]));
-    check(&file(0, 1_021), Ok([0, 1_021, 1_021, 1]), refused(1));
+    // Bytes: 4,092, 4,096 and 4,100.
+    alike(&file(16, 987), Ok([16, 247, 987, 1]));
+    alike(&file(16, 988), Ok([16, 247, 988, 1]));
+    check(&file(16, 989), Ok([16, 248, 989, 1]), refused(1));
     for len in [0, 12, 4_093, 4_095, 4_097, 4_099, 4_101] {
         alike(&file(16, 990)[..len], refused(1));
     }
@@ -509,34 +600,54 @@ fn small_reader() {
     check(&file(32, 0), Ok([32, 0, 0, 1]), refused(3));
     alike(&file(33, 0), refused(3));
     // Both: 4,096 and 4,100 bytes.
-    check(&file(17, 986), Ok([17, 986, 986, 1]), refused(3));
-    check(&file(17, 987), Ok([17, 987, 987, 1]), refused(1));
+    check(&file(17, 986), Ok([17, 247, 986, 1]), refused(3));
+    check(&file(17, 987), Ok([17, 247, 987, 1]), refused(1));
+    // Empty clauses over no variables: one at most is accepted.
+    let empty = |m| RuleDraft { clauses: vec![Vec::new(); m], prefix: Vec::new() }.words();
+    alike(&to_bytes(&empty(1)), Ok([0, 1, 1, 1]));
+    alike(&to_bytes(&empty(2)), Err((26, Some(1))));
+    alike(&to_bytes(&empty(1_020)), Err((26, Some(1))));
+    check(&to_bytes(&empty(1_021)), Err((26, Some(1))), refused(1));
     // Clauses that are claimed.
-    alike(&with(0, 1_020, 4, 1_024), Err((5, Some(1_020))));
-    alike(&with(0, 1_020, 4, 1_025), refused(3));
-    check(&file(0, 1_024), Ok([0, 1_024, 1_024, 1]), refused(1));
-    check(&file(0, 1_025), refused(3), refused(1));
+    alike(&changed(empty(1_020), 4, 1_024), Err((5, Some(1_020))));
+    alike(&changed(empty(1_020), 4, 1_025), refused(3));
+    check(&generate::longest_rule([0, 0]).bytes(), Ok([32, 1_024, 16_316, 1]), refused(1));
+    check(&to_bytes(&empty(1_025)), refused(3), refused(1));
 
     // A wrong last word: within the limits, with more variables and with more bytes, of which there are 5,000.
     alike(&with(16, 988, 1, 1_025), refused(2));
     alike(&with(17, 986, 1, 1_025), refused(2));
     check(&with(16, 989, 1, 1_024), refused(2), refused(1));
-    let mut units = RuleDraft { clauses: vec![vec![0]; 607], prefix: vec![[0, 0]; 16] }.words();
-    check(&to_bytes(&units), Ok([16, 607, 1_214, 1]), refused(1));
-    units[1_249] = 1_251;
-    check(&to_bytes(&units), refused(2), refused(1));
+    check(&file(16, 1_214), Ok([16, 304, 1_214, 1]), refused(1));
+    check(&with(16, 1_214, 1, 1_251), refused(2), refused(1));
     // A wrong prefix start, a clause and a variable at fault, and a whole over 2^60, with 16 variables and with 17.
     for (n, small) in [(16, None), (17, Some(refused(3)))] {
         let either = |file: &[u8], bench| check(file, bench, small.unwrap_or(bench));
         let rule =
             |clauses: &[&[u32]], pair| RuleDraft { prefix: vec![pair; n], ..RuleDraft::new(clauses, &[]) }.bytes();
-        either(&with(n, 500, 2, 499), refused(4));
-        either(&with(n, 500, 4, 499), Err((5, Some(499))));
+        either(&with(n as u32, 500, 2, 499), refused(4));
+        either(&with(n as u32, 500, 4, 124), Err((5, Some(124))));
         either(&rule(&[&[0], &[2 * n as u32]], [0, 0]), Err((6, Some(1))));
         either(&rule(&[&[0], &[2, 3]], [0, 0]), Err((7, Some(1))));
         either(&rule(&[&[0], &[2, 0]], [0, 0]), Err((23, Some(1))));
+        either(&rule(&[&[0], &[2], &[0]], [0, 1]), Err((26, Some(2))));
         either(&rule(&[&[0]], [0, 1]), Err((8, Some(0))));
         either(&rule(&[&[0]], [32_768, 32_768]), refused(9));
+    }
+}
+
+/// Files of so many words have as many, and are accepted, however few variables there are.
+#[test]
+fn files_of_words() {
+    let mut random = Random::new(17);
+    for n in 0..=32 {
+        for count in (1_018..=1_030).chain([4, 100, 16_384]) {
+            let words = generate::rule_of_words(&mut random, n, count).words();
+            let fault = rules::read(&to_bytes(&words)).err();
+            assert_eq!(fault, None, "{n} variables, {count} words");
+            let filled = n >= 6 && count < 16_384 || n >= 15;
+            assert!(words.len() == count.max(4 + 2 * n) || !filled, "{n} variables, {count} words: {}", words.len());
+        }
     }
 }
 
@@ -766,10 +877,15 @@ fn repaired_files() {
     same(&generate::sample().0.bytes());
     same(&file(&[]));
     same(&to_bytes(&[0, 0, 0, 4]));
-    same(&to_bytes(&[0, 0, 2, 0, 2, 6]));
-    // Copies stay, and so do empty clauses.
-    same(&file(&[&[0], &[], &[0], &[]]));
-    check(&file(&[&[2, 0], &[0, 2], &[0, 2, 0]]), &file(&[&[0, 2], &[0, 2], &[0, 2]]), [0, 1, 1]);
+    same(&to_bytes(&[0, 1, 0, 1, 5]));
+    check(&to_bytes(&[0, 0, 2, 0, 2, 6]), &to_bytes(&[0, 1, 0, 1, 5]), [1, 0, 0]);
+    // An empty clause stays. Copies go, also those that the repair makes, and count among the clauses alone.
+    same(&file(&[&[0], &[], &[0, 2]]));
+    check(&file(&[&[0], &[], &[0], &[]]), &file(&[&[0], &[]]), [2, 0, 0]);
+    check(&file(&[&[2, 0], &[0, 2], &[0, 2, 0]]), &file(&[&[0, 2]]), [2, 0, 1]);
+    check(&file(&[&[0, 2, 0], &[2, 0], &[0, 2]]), &file(&[&[0, 2]]), [2, 1, 0]);
+    check(&file(&[&[0, 2], &[4], &[4], &[2, 0]]), &file(&[&[0, 2], &[4]]), [2, 0, 0]);
+    check(&file(&[&[0, 1], &[3], &[0, 1]]), &file(&[&[3]]), [2, 0, 0]);
     check(&file(&[&[0, 1], &[3, 2, 3], &[4, 5]]), &file(&[]), [3, 0, 0]);
     let mixed = file(&[&[4, 2], &[0, 1, 1], &[2, 2, 0], &[], &[5, 4], &[3, 3]]);
     check(&mixed, &file(&[&[2, 4], &[0, 2], &[], &[3]]), [2, 2, 2]);
@@ -777,7 +893,7 @@ fn repaired_files() {
     let words = to_words(&repair(&file(&[&[5, 4, 0], &[4, 0, 4], &[1], &[]]), 1_000).written);
     assert_eq!(words, [2, 0, 4, 1, 1, 0, 4, 1, 0, 0, 3, 7, 3, 3, 6, 16]);
 
-    // What the reader refuses by other numbers than 7 and 23, before 25.
+    // What the reader refuses by other numbers than 7, 23 and 26, before 25.
     let refused = |file: &[u8], fault: Fault| {
         for capacity in [0, file.len().saturating_sub(1), file.len(), 65_536] {
             assert_eq!(repair(file, capacity), Answer::refused(fault), "{:?}", to_words(file));
@@ -799,17 +915,19 @@ fn repaired_files() {
     refused(&with(4, 7), (5, Some(6)));
     refused(&file(&[&[1, 0], &[2, 2, 2, 2]]), (5, Some(1)));
     refused(&file(&[&[1, 0], &[3, 2, 6]]), (6, Some(1)));
+    refused(&file(&[&[0], &[0], &[6]]), (6, Some(2)));
     refused(&RuleDraft::new(&[&[2, 0], &[1, 0]], &[[1, 1], [0, 1]]).bytes(), (8, Some(1)));
     refused(&RuleDraft::new(&[&[2, 0], &[1, 0]], &[[65_535, 65_535]; 4]).bytes(), (9, None));
 }
 
-/// Random files become what they were made from. That is accepted, stays as it is when it is repaired, is satisfied by
-/// the same assignments, and has the figure that document 01's rule gives the old clauses, as they stand and as sets.
+/// Random files, whether the reader accepts them or refuses them by 7, 23 or 26, become what they were made from. That
+/// is accepted, has no two clauses alike, stays as it is when it is repaired, is satisfied by the same assignments, and
+/// has the figure that document 01's rule gives the old clauses, as they stand and as sets.
 #[test]
 fn repairs_mean_the_same() {
     let mut random = Random::new(11);
-    let (mut files, mut kinds) = (0, [0; 8]);
-    for round in 0..20_000 {
+    let (mut kinds, mut readings) = ([0; 8], BTreeMap::new());
+    for round in 0..30_000 {
         let most = if round % 8 == 0 { 10 } else { 6 };
         let draft = generate::small_stored_rule(&mut random, most);
         let (old, new) = (draft.stored.bytes(), draft.repaired.bytes());
@@ -819,6 +937,8 @@ fn repairs_mean_the_same() {
         assert_eq!((&again.written, again.counts), (&new, [0; 3]), "{draft:?}");
 
         let rules = rules_of(&draft.repaired);
+        let clauses = &draft.repaired.clauses;
+        assert!((0..clauses.len()).all(|at| !clauses[..at].contains(&clauses[at])), "{draft:?}");
         let n = rules.n();
         if n <= 6 {
             let [old, new] = [&draft.stored, &draft.repaired].map(|rule| &rule.clauses);
@@ -833,12 +953,14 @@ fn repairs_mean_the_same() {
         assert_eq!(figure, enumerate::value(&sets), "{draft:?}");
         assert_eq!(figure, Tables::new(&sets).value(), "{draft:?}");
 
-        files += 1;
+        *readings.entry(rules::read(&old).map_or_else(|fault| fault.0, |_| 0)).or_insert(0) += 1;
         let [clauses, literals, reordered] = draft.counts.map(|count| usize::from(count > 0));
         kinds[clauses + 2 * literals + 4 * reordered] += 1;
     }
-    println!("repairs_mean_the_same: {files} files, by the counts that are not 0: {kinds:?}");
+    println!("repairs_mean_the_same: files by the counts that are not 0: {kinds:?}, by the reader: {readings:?}");
     assert!(kinds.iter().all(|count| *count >= 500), "files by the counts that are not 0: {kinds:?}");
+    let all = readings.keys().eq(&[0, 7, 23, 26]) && readings.values().all(|count| *count >= 1_000);
+    assert!(all, "files by what the reader answers: {readings:?}");
 }
 
 /// Random files tell document 02's repair from what is nearly it.

@@ -95,6 +95,8 @@ fn long_files() {
         (changed(|clause| clause[1] = clause[0]), [0, 1_023, 0]),
         (changed(falling_with_repeats), [0, 1_023, 1_023]),
         (changed(|clause| clause[1] = 1), [1_023, 0, 0]),
+        // All that are as long as each other are alike.
+        (changed(|clause| clause.iter_mut().for_each(|literal| *literal &= !1)), [1_021, 0, 0]),
     ] {
         assert_eq!(rule.len(), 65_536);
         let answer = pair.repair(&mut random, &rule, &[0, 65_532, 65_535, 65_536, 65_537, LONGEST]);

@@ -85,7 +85,7 @@ fn long_files() {
         pair.read(&mut random, &bytes);
     }
     pair.report("long_files");
-    pair.reached(READ, [0, 1, 2, 3, 4, 5, 6, 7, 23, 8], 1);
+    pair.reached(READ, [0, 1, 2, 3, 4, 5, 6, 7, 23, 26, 8], 1);
     pair.named_later(READ, NAMING, 1);
     pair.reached(FIGURE, [0], 60);
     pair.reached(DERIVE, [0, 22], 60);
@@ -142,7 +142,7 @@ fn damaged_files() {
     }
     pair.report("damaged_files");
     for operation in [READ, READ_SMALL, FIGURE, VERDICT, CUT, DERIVE] {
-        pair.reached(operation, [0, 1, 2, 3, 4, 5, 6, 7, 23, 8], 50);
+        pair.reached(operation, [0, 1, 2, 3, 4, 5, 6, 7, 23, 26, 8], 50);
         pair.named_later(operation, [23], 50);
     }
     pair.reached(REPAIR, [0, 1, 2, 3, 4, 5, 6, 8, 25], 50);
@@ -197,6 +197,40 @@ fn unordered_files() {
     pair.named_later(READ_SMALL, [23], 3_000);
     pair.reached(REPAIR, [0, 25], 10_000);
     assert!(last >= 1_000 && far >= 50, "the last of several clauses {last}, a clause after 255 {far} times");
+}
+
+/// Accepted files with copies put into them: 26 names the first, wherever it stands and wherever what it equals does.
+#[test]
+fn copied_files() {
+    let (mut random, mut pair) = (random(113), Pair::new());
+    // Copies at the end, after clause 255, of the clause before and of clause 0.
+    let (mut places, mut made) = ([0; 4], 0);
+    while made < rounds(10_000) {
+        let mut draft =
+            if random.once_in(50) { generate::long_rule(&mut random) } else { generate::small_rule(&mut random, 7) };
+        let Some(first) = generate::copy_clauses(&mut random, &mut draft.clauses) else {
+            continue;
+        };
+        let bytes = draft.bytes();
+        if bytes.len() > 65_536 {
+            continue;
+        }
+        made += 1;
+        assert_eq!(rules::read(&bytes).err(), Some((26, Some(first))), "{draft:?}");
+        pair.rule(&mut random, &bytes);
+        let RuleDraft { clauses, .. } = draft;
+        let is = |at: usize| clauses[at] == clauses[first];
+        let kinds = [first + 1 == clauses.len() && first > 1, first > 255, is(first - 1), is(0) && first > 1];
+        places.iter_mut().zip(kinds).for_each(|(count, is)| *count += u64::from(is));
+    }
+    pair.report("copied_files");
+    println!("  copies at the end, after 255, of the clause before, of clause 0: {places:?}");
+    for operation in [READ, FIGURE, VERDICT, CUT, DERIVE] {
+        pair.reached(operation, [26], 10_000);
+    }
+    pair.reached(READ_SMALL, [26], 9_000);
+    pair.reached(REPAIR, [0, 25], 10_000);
+    assert!(places.iter().all(|count| *count >= 50), "{places:?}");
 }
 
 #[test]
@@ -262,7 +296,7 @@ fn changed_words() {
         }
     }
     pair.report("changed_words");
-    pair.reached(READ, [0, 2, 3, 4, 5, 6, 7, 23, 8], 10);
+    pair.reached(READ, [0, 2, 3, 4, 5, 6, 7, 23, 26, 8], 10);
 }
 
 /// The same on pages that may only be read: a write would end the process.

@@ -2,20 +2,49 @@
 
 use super::{clause, damage_rule, pattern, prefix, with_faults, RuleDraft};
 use crate::random::Random;
-use crate::rules::REFUSALS;
+use crate::rules::{is_rising, REFUSALS};
 use crate::to_bytes;
+use std::collections::HashSet;
 
-/// A valid rule file of `n` variables and so many words, as far as 1,024 clauses fill them.
+/// So many copies are drawn one after another before longer clauses are tried.
+const MOST_COPIES: usize = 30;
+
+/// A valid rule file of `n` variables and so many words, as far as 1,024 different clauses fill them. From six
+/// variables on they fill 1,024 words and some more.
 pub fn rule_of_words(random: &mut Random, n: usize, count: usize) -> RuleDraft {
-    let longest = random.within(1, n + 1);
+    let mut longest = random.within(1, n + 1);
     let mut left = count.saturating_sub(4 + 2 * n);
-    let mut clauses = Vec::new();
+    let (mut clauses, mut seen, mut copies) = (Vec::new(), HashSet::new(), 0);
     while left > 0 && clauses.len() < 1_024 {
         // The words of the next clause: so many at least that the clauses after it can fill the rest.
         let least = left.div_ceil(1_024 - clauses.len()).min(n + 1);
         let words = random.within(least, longest.clamp(least, left));
-        clauses.push(clause(random, n, words - 1));
-        left -= words;
+        let clause = clause(random, n, words - 1);
+        if seen.insert(clause.clone()) {
+            clauses.push(clause);
+            left -= words;
+            copies = 0;
+            continue;
+        }
+        copies += 1;
+        if copies > MOST_COPIES {
+            if longest > n || longest >= left {
+                break;
+            }
+            longest += 1;
+            copies = 0;
+        }
+    }
+    // The last words, if no clause is as short as they are that is not there already.
+    for _ in 0..if clauses.is_empty() { 0 } else { 50 * left.min(n) } {
+        let at = random.below(clauses.len());
+        let literal = random.below(2 * n) as u32;
+        let mut longer = [&clauses[at][..], &[literal]].concat();
+        longer.sort_unstable();
+        if left > 0 && is_rising(&longer) && seen.insert(longer.clone()) {
+            clauses[at] = longer;
+            left -= 1;
+        }
     }
     let pattern = pattern(random);
     RuleDraft { clauses, prefix: prefix(random, n, pattern) }
@@ -36,9 +65,17 @@ pub fn border_rule(random: &mut Random) -> RuleDraft {
 pub fn border_file(random: &mut Random) -> Vec<u8> {
     let draft = border_rule(random);
     match random.below(10) {
-        0..3 => draft.bytes(),
+        0 | 1 => draft.bytes(),
+        2 => {
+            // Alone, or with a check about it.
+            let other = random.pick(&[26, 26, 7, 23, 8, 9]);
+            with_faults(random, draft, &[26, other])
+        }
         3..7 => {
-            let faults = [random.pick(&REFUSALS), random.pick(&REFUSALS)];
+            let at = random.below(REFUSALS.len());
+            // Often the next in the order of the checks.
+            let second = if random.once_in(2) { (at + 1) % REFUSALS.len() } else { random.below(REFUSALS.len()) };
+            let faults = [REFUSALS[at], REFUSALS[second]];
             let count = random.pick(&[1, 1, 2]);
             with_faults(random, draft, &faults[..count])
         }

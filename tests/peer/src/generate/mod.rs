@@ -19,6 +19,7 @@ pub use crate::rules::RuleDraft;
 
 use crate::random::Random;
 use crate::writer::{DerivationDraft, LineDraft};
+use std::collections::HashSet;
 
 /// The rule file and the derivation of document 01.
 pub fn sample() -> (RuleDraft, DerivationDraft) {
@@ -34,14 +35,40 @@ pub fn sample() -> (RuleDraft, DerivationDraft) {
     (rule, DerivationDraft { lines, closing: 9 })
 }
 
-/// 1,024 clauses over 32 variables of these weights in exactly 65,536 bytes. Clause {0} decides both sides of
-/// variable 0.
+/// 1,024 different clauses over 32 variables of these weights in exactly 65,536 bytes. Clause {0} decides both sides of
+/// variable 0. The others have literals 0 and 2, and differ in variables 2 to 11.
 pub fn longest_rule(pair: [u32; 2]) -> RuleDraft {
     let mut clauses = vec![vec![0]];
     for at in 0..1_023 {
-        clauses.push((0..if at < 969 { 15 } else { 14 }).map(|v| 2 * v).collect());
+        let sign = |v: u32| if (2..12).contains(&v) { at >> (v - 2) & 1 } else { 0 };
+        clauses.push((0..if at < 969 { 15 } else { 14 }).map(|v| 2 * v + sign(v)).collect());
     }
     RuleDraft { clauses, prefix: vec![pair; 32] }
+}
+
+/// Drops the later copies of a clause.
+pub fn drop_copies(clauses: &mut Vec<Vec<u32>>) {
+    let mut seen = HashSet::new();
+    clauses.retain(|clause| seen.insert(clause.clone()));
+}
+
+/// Puts copies of one or more clauses, no two of which are alike, after them, and gives the first place where one
+/// stands; none if it can put none. An empty clause is taken often. Mostly a copy takes the place of a clause of its
+/// length, so that the file stays as long as it is; else it is put in, unless there are 1,024.
+pub fn copy_clauses(random: &mut Random, clauses: &mut Vec<Vec<u32>>) -> Option<usize> {
+    for _ in 0..random.pick(&[1, 1, 1, 2, 3]) {
+        let count = clauses.len();
+        let empty = clauses.iter().position(|clause| clause.is_empty()).filter(|_| random.once_in(6));
+        let from = empty.unwrap_or_else(|| often_at_an_end(random, count.max(1)));
+        let copy = clauses.get(from)?.clone();
+        let alike: Vec<usize> = (from + 1..count).filter(|at| clauses[*at].len() == copy.len()).collect();
+        if !alike.is_empty() && (count >= 1_024 || !random.once_in(4)) {
+            clauses[alike[often_at_an_end(random, alike.len())]] = copy;
+        } else if count < 1_024 {
+            clauses.insert(from + 1 + often_at_an_end(random, count - from), copy);
+        }
+    }
+    (1..clauses.len()).find(|at| clauses[..*at].contains(&clauses[*at]))
 }
 
 /// Puts one or more of these lists, whose literals rise, out of order and gives the first that it took; none if no list

@@ -1,6 +1,6 @@
 //! Random rule files, valid and damaged.
 
-use super::{damage_length, harmful, often_at_an_end, unorder, RuleDraft};
+use super::{copy_clauses, damage_length, drop_copies, harmful, often_at_an_end, unorder, RuleDraft};
 use crate::random::Random;
 use crate::rules::LARGEST_WHOLE;
 use crate::{to_bytes, to_words};
@@ -86,7 +86,7 @@ pub fn pattern(random: &mut Random) -> Pattern {
     ])
 }
 
-/// A valid rule file of `n` variables and `m` clauses, most of them short.
+/// A valid rule file of `n` variables, most of its clauses short: `m` of them, less the copies among these.
 pub fn rule(random: &mut Random, n: usize, m: usize) -> RuleDraft {
     let pattern = pattern(random);
     let usual = random.within(1, 3);
@@ -102,6 +102,7 @@ pub fn rule(random: &mut Random, n: usize, m: usize) -> RuleDraft {
         };
         clauses.push(clause(random, n, k));
     }
+    drop_copies(&mut clauses);
     RuleDraft { clauses, prefix: prefix(random, n, pattern) }
 }
 
@@ -116,10 +117,10 @@ pub fn small_rule(random: &mut Random, most: usize) -> RuleDraft {
     rule(random, n, m)
 }
 
-/// A valid rule file of `n` variables, at least one, in which clauses clash or nearly do. Besides `m` clauses it has
-/// pairs of one clause and a copy in which mostly one literal is turned to its opposite: the two clash where all their
-/// other literals are false. Sometimes the copy has a literal more, or another one turned too, so that it is satisfied
-/// there.
+/// A valid rule file of `n` variables, at least one, in which clauses clash or nearly do. Besides up to `m` clauses it
+/// has pairs of one clause and another that is the same but for mostly one literal, which is turned to its opposite:
+/// the two clash where all their other literals are false. Sometimes the second has a literal more, or another one
+/// turned too, so that it is satisfied there.
 pub fn clashing_rule(random: &mut Random, n: usize, m: usize) -> RuleDraft {
     let mut draft = rule(random, n, m);
     for _ in 0..random.within(1, 4) {
@@ -136,6 +137,7 @@ pub fn clashing_rule(random: &mut Random, n: usize, m: usize) -> RuleDraft {
         }
         draft.clauses.extend([first, second]);
     }
+    drop_copies(&mut draft.clauses);
     random.shuffle(&mut draft.clauses);
     draft
 }
@@ -161,8 +163,17 @@ pub fn long_rule(random: &mut Random) -> RuleDraft {
         }
     }
     let narrow = n.saturating_sub(random.within(4, 8));
-    for v in 0..narrow.min(m) {
-        draft.clauses[v] = vec![2 * v as u32 + random.below(2) as u32];
+    for (v, clause) in draft.clauses.iter_mut().take(narrow).enumerate() {
+        *clause = vec![2 * v as u32 + random.below(2) as u32];
+    }
+    drop_copies(&mut draft.clauses);
+    // In the place of those that were copies: there are over 3,000 clauses of one to five literals over 8 variables.
+    while draft.clauses.len() < m {
+        while draft.clauses.len() < m {
+            let k = random.within(1, longest.clamp(5, n));
+            draft.clauses.push(self::clause(random, n, k));
+        }
+        drop_copies(&mut draft.clauses);
     }
     random.shuffle(&mut draft.clauses);
     while draft.words().len() > 16_384 {
@@ -251,14 +262,23 @@ pub fn faulty_rule(random: &mut Random, faults: &[u32]) -> Vec<u8> {
             clause.push(random.below(2 * n) as u32);
         }
     }
+    drop_copies(&mut draft.clauses);
     with_faults(random, draft, faults)
 }
 
 /// A valid rule file with these faults put into it, as far as its shape allows.
 pub fn with_faults(random: &mut Random, mut draft: RuleDraft, faults: &[u32]) -> Vec<u8> {
-    let (n, m) = (draft.prefix.len(), draft.clauses.len());
+    let n = draft.prefix.len();
     let bound = 2 * n as u32;
     let has = |fault: u32| faults.contains(&fault);
+    // First, so that the faults below come to copies too.
+    if has(26) {
+        if draft.clauses.is_empty() {
+            draft.clauses.push(Vec::new());
+        }
+        copy_clauses(random, &mut draft.clauses);
+    }
+    let m = draft.clauses.len();
     if has(9) {
         for pair in draft.prefix.iter_mut().take(random.within(4, 8)) {
             *pair = random.pick(&[[65_535, 65_535], [32_768, 32_768], [65_535, 1]]);

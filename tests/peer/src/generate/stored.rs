@@ -1,7 +1,9 @@
-//! Rule files as they were stored before document 02 fixed the order inside a clause: sound ones, each made from the
-//! file that its repair must give, and damaged ones.
+//! Rule files as they were stored before document 02 fixed the order inside a clause and forbade copies: sound ones,
+//! each made from the file that its repair must give, and damaged ones.
 
-use super::{clause, damage_rule, long_rule, noise, rule, small_rule, unorder, with_faults, RuleDraft};
+use super::{
+    clause, damage_rule, long_rule, noise, often_at_an_end, rule, small_rule, unorder, with_faults, RuleDraft,
+};
 use crate::random::Random;
 use crate::repair::{repair, Mended};
 use crate::rules::REFUSALS;
@@ -41,26 +43,18 @@ fn opposed(random: &mut Random, n: usize) -> Vec<u32> {
     list
 }
 
-/// A valid rule file whose clauses are put out of order and given repeats, with clauses that hold opposites between
-/// them or in their place: as much of it as makes at most 1,024 clauses and 65,536 bytes.
-pub fn spoil(random: &mut Random, rule: RuleDraft) -> StoredDraft {
-    let n = rule.prefix.len();
-    // In how many clauses of four.
-    let [order, repeats, opposites] = [(); 3].map(|()| random.pick(&[0, 0, 1, 2, 3, 4]));
-    let none_kept = random.once_in(8);
-    // Each clause with what must become of it.
-    let mut clauses = Vec::new();
-    for kept in rule.clauses {
-        let is_opposed = n > 1 && (none_kept || random.below(4) < opposites);
-        let mut dropped = is_opposed.then(|| (opposed(random, n), Mended::DROPPED));
-        if none_kept || random.once_in(2) {
-            clauses.extend(dropped.take());
-        }
-        if none_kept {
-            continue;
-        }
-        let mut list = kept.clone();
-        if random.below(4) < order {
+/// How many clauses of four are put out of order, and given repeats.
+#[derive(Clone, Copy)]
+struct Spoiling {
+    order: usize,
+    repeats: usize,
+}
+
+impl Spoiling {
+    /// A clause of these literals, which rise, and what becomes of it where it is kept.
+    fn clause(self, random: &mut Random, kept: &[u32], n: usize) -> (Vec<u32>, Mended) {
+        let mut list = kept.to_vec();
+        if random.below(4) < self.order {
             if random.once_in(3) {
                 random.shuffle(&mut list);
             } else {
@@ -68,12 +62,45 @@ pub fn spoil(random: &mut Random, rule: RuleDraft) -> StoredDraft {
             }
         }
         let mut counts = [0, 0, u64::from(list != kept)];
-        if random.below(4) < repeats && !list.is_empty() {
+        if random.below(4) < self.repeats && !list.is_empty() {
             counts[1] = random.within(0, n - list.len()) as u64;
             (0..counts[1]).for_each(|_| repeat(random, &mut list));
         }
-        clauses.push((list, Mended { literals: Some(kept), counts }));
-        clauses.extend(dropped);
+        (list, Mended { literals: Some(kept.to_vec()), counts })
+    }
+}
+
+/// A valid rule file whose clauses are put out of order and given repeats, with clauses that hold opposites between
+/// them or in their place, and with copies of all these after them: as much of it as makes at most 1,024 clauses and
+/// 65,536 bytes.
+pub fn spoil(random: &mut Random, rule: RuleDraft) -> StoredDraft {
+    let n = rule.prefix.len();
+    // In how many clauses of four.
+    let [order, repeats, opposites] = [(); 3].map(|()| random.pick(&[0, 0, 1, 2, 3, 4]));
+    let copies = random.pick(&[0, 0, 0, 1, 2, 4]);
+    let spoiling = Spoiling { order, repeats };
+    let none_kept = random.once_in(8);
+    // Each clause with what must become of it.
+    let mut clauses: Vec<(Vec<u32>, Mended)> = Vec::new();
+    for kept in rule.clauses {
+        let is_opposed = n > 1 && (none_kept || random.below(4) < opposites);
+        let mut dropped = is_opposed.then(|| (opposed(random, n), Mended::DROPPED));
+        if none_kept || random.once_in(2) {
+            clauses.extend(dropped.take());
+        }
+        if !none_kept {
+            clauses.push(spoiling.clause(random, &kept, n));
+            clauses.extend(dropped);
+        }
+        if !clauses.is_empty() && random.below(4) < copies {
+            // As the first stands, or spoiled anew; of a copy too.
+            let (list, mended) = &clauses[often_at_an_end(random, clauses.len())];
+            let copy = match &mended.literals {
+                Some(kept) if random.once_in(2) => spoiling.clause(random, kept, n).0,
+                _ => list.clone(),
+            };
+            clauses.push((copy, Mended::DROPPED));
+        }
     }
 
     let empty = RuleDraft { clauses: Vec::new(), prefix: rule.prefix };

@@ -2,7 +2,7 @@
 //! another answer, or other bytes written, by another repair.
 
 use crate::answer::{repairing, Answer};
-use crate::repair::{first_occurrences, has_opposites, mend, repair, repair_with, Mended};
+use crate::repair::{drop_copies, first_occurrences, has_opposites, mend, mend_all, repair, repair_with, Mended};
 use crate::rules::{draft_by, Reader, RuleDraft, BENCH, REPAIR};
 use crate::to_words;
 
@@ -16,16 +16,24 @@ struct Call<'a> {
 struct Notion {
     name: &'static str,
     reader: Reader,
-    /// What becomes of a clause.
+    /// What becomes of a clause by itself.
     clause: fn(&[u32]) -> Mended,
+    /// What becomes of copies, from the clauses as they stand and what becomes of each by itself.
+    copies: fn(&[Vec<u32>], &mut [Mended]),
     /// What is made of the answer.
     change: fn(Call, Answer) -> Answer,
 }
 
 /// Document 02's.
-const RIGHT: Notion = Notion { name: "", reader: REPAIR, clause: mend, change: |_, answer| answer };
+const RIGHT: Notion = Notion {
+    name: "",
+    reader: REPAIR,
+    clause: mend,
+    copies: |_, mended| drop_copies(mended),
+    change: |_, answer| answer,
+};
 
-const NOTIONS: [Notion; 48] = [
+const NOTIONS: [Notion; 66] = [
     // The literals of a kept clause.
     Notion { name: "literals left in their order", clause: |list| with_literals(list, first_occurrences), ..RIGHT },
     Notion {
@@ -81,8 +89,111 @@ const NOTIONS: [Notion; 48] = [
         clause: |list| kept_unless(list, has_opposites(list) || list.is_empty()),
         ..RIGHT
     },
-    Notion { name: "copies of a clause dropped", change: |_, answer| with_clauses(answer, without_copies), ..RIGHT },
     Notion { name: "kept clauses put in order", change: |_, answer| with_clauses(answer, |list| list.sort()), ..RIGHT },
+    // Which copies are dropped.
+    Notion { name: "copies kept", copies: |_, _| {}, ..RIGHT },
+    Notion {
+        name: "the last copy kept and those before it dropped",
+        copies: |_, mended| {
+            mended.reverse();
+            drop_copies(mended);
+            mended.reverse();
+        },
+        ..RIGHT
+    },
+    Notion {
+        name: "all dropped of which there is a copy",
+        copies: |_, mended| {
+            let all = mended.to_vec();
+            drop_each(mended, |at| all.iter().filter(|clause| clause.literals == all[at].literals).count() > 1);
+        },
+        ..RIGHT
+    },
+    Notion {
+        name: "one copy of each clause dropped",
+        copies: |_, mended| {
+            let all = mended.to_vec();
+            drop_each(mended, |at| all[..at].iter().filter(|clause| clause.literals == all[at].literals).count() == 1);
+        },
+        ..RIGHT
+    },
+    Notion {
+        name: "copies compared with the clause before alone",
+        copies: |_, mended| {
+            let all = mended.to_vec();
+            drop_each(mended, |at| at > 0 && all[at - 1].literals == all[at].literals);
+        },
+        ..RIGHT
+    },
+    Notion {
+        name: "copies compared with the kept clause before alone",
+        copies: |_, mended| {
+            let all = mended.to_vec();
+            drop_each(mended, |at| {
+                let before = all[..at].iter().rev().find(|clause| clause.literals.is_some());
+                before.is_some_and(|clause| clause.literals == all[at].literals)
+            });
+        },
+        ..RIGHT
+    },
+    Notion { name: "copies compared as they stand", copies: |old, mended| by(old, mended, <[u32]>::to_vec), ..RIGHT },
+    Notion { name: "copies compared with their repeats", copies: |old, mended| by(old, mended, sorted), ..RIGHT },
+    Notion { name: "copies compared out of order", copies: |old, mended| by(old, mended, first_occurrences), ..RIGHT },
+    Notion {
+        name: "copies compared by their variables",
+        copies: |old, mended| by(old, mended, |list| merged(&sorted(&list.iter().map(|l| l / 2).collect::<Vec<_>>()))),
+        ..RIGHT
+    },
+    Notion {
+        name: "copies of empty clauses kept",
+        copies: |_, mended| {
+            let all = mended.to_vec();
+            drop_copies(mended);
+            let empty = Some(Vec::new());
+            mended.iter_mut().zip(all).filter(|(_, old)| old.literals == empty).for_each(|(clause, old)| *clause = old);
+        },
+        ..RIGHT
+    },
+    // What a copy adds to the counts.
+    Notion { name: "copies not counted", copies: |_, mended| with_counts(mended, |_| [0; 3]), ..RIGHT },
+    Notion {
+        name: "literals of copies counted",
+        copies: |_, mended| {
+            with_counts(mended, |old| [1, old.literals.as_ref().map_or(0, Vec::len) as u64 + old.counts[1], 0])
+        },
+        ..RIGHT
+    },
+    Notion {
+        name: "repeats in copies counted",
+        copies: |_, mended| with_counts(mended, |old| [1, old.counts[1], 0]),
+        ..RIGHT
+    },
+    Notion {
+        name: "copies out of order counted",
+        copies: |_, mended| with_counts(mended, |old| [1, 0, old.counts[2]]),
+        ..RIGHT
+    },
+    Notion {
+        name: "copies of dropped clauses counted twice",
+        copies: |old, mended| {
+            drop_copies(mended);
+            let sets: Vec<Vec<u32>> = old.iter().map(|list| merged(&sorted(list))).collect();
+            for at in (1..sets.len()).filter(|at| has_opposites(&old[*at]) && sets[..*at].contains(&sets[*at])) {
+                mended[at].counts[0] += 1;
+            }
+        },
+        ..RIGHT
+    },
+    Notion {
+        name: "copies of dropped clauses not counted",
+        copies: |old, mended| {
+            drop_copies(mended);
+            for at in (1..old.len()).filter(|at| has_opposites(&old[*at]) && old[..*at].contains(&old[*at])) {
+                mended[at].counts[0] = 0;
+            }
+        },
+        ..RIGHT
+    },
     // What a clause adds to the counts.
     Notion {
         name: "repeats in dropped clauses counted",
@@ -194,9 +305,11 @@ const NOTIONS: [Notion; 48] = [
         ..RIGHT
     },
     // The reader.
-    Notion { name: "7 asked", reader: Reader { left_out: &[23], ..BENCH }, ..RIGHT },
-    Notion { name: "23 asked", reader: Reader { left_out: &[7], ..BENCH }, ..RIGHT },
-    Notion { name: "7 and 23 asked", reader: BENCH, ..RIGHT },
+    Notion { name: "7 asked", reader: Reader { left_out: &[23, 26], ..BENCH }, ..RIGHT },
+    Notion { name: "23 asked", reader: Reader { left_out: &[7, 26], ..BENCH }, ..RIGHT },
+    Notion { name: "26 asked", reader: Reader { left_out: &[7, 23], ..BENCH }, ..RIGHT },
+    Notion { name: "7 and 23 asked", reader: Reader { left_out: &[26], ..BENCH }, ..RIGHT },
+    Notion { name: "7, 23 and 26 asked", reader: BENCH, ..RIGHT },
     Notion { name: "5 without the repeats", change: with_long_clauses, ..RIGHT },
     Notion { name: "6 in kept clauses alone", change: with_6_in_kept, ..RIGHT },
     Notion { name: "6 by the number of a kept clause", change: with_number_of_kept, ..RIGHT },
@@ -269,23 +382,36 @@ fn judged(list: &[u32], literals: fn(&[u32]) -> Vec<u32>) -> Mended {
     with_count(list, 2, |_| usize::from(!has_opposites(list) && !rise))
 }
 
-fn without_copies(clauses: &mut Vec<Vec<u32>>) {
-    let all = std::mem::take(clauses);
-    for clause in all {
-        if !clauses.contains(&clause) {
-            clauses.push(clause);
+/// Drops the kept clauses of these numbers.
+fn drop_each(mended: &mut [Mended], is_copy: impl Fn(usize) -> bool) {
+    for (at, clause) in mended.iter_mut().enumerate().filter(|(_, clause)| clause.literals.is_some()) {
+        if is_copy(at) {
+            *clause = Mended::DROPPED;
         }
     }
 }
 
-/// An answer by which other clauses are written.
-fn with_clauses(mut answer: Answer, change: fn(&mut Vec<Vec<u32>>)) -> Answer {
+/// Drops the kept clauses that are the same as an earlier one by what is made of them as they stand.
+fn by(old: &[Vec<u32>], mended: &mut [Mended], compared: fn(&[u32]) -> Vec<u32>) {
+    let lists: Vec<Option<Vec<u32>>> =
+        old.iter().zip(&*mended).map(|(list, clause)| clause.literals.as_ref().map(|_| compared(list))).collect();
+    drop_each(mended, |at| lists[..at].contains(&lists[at]));
+}
+
+/// Drops copies, which add other numbers to the counts.
+fn with_counts(mended: &mut [Mended], counts: fn(&Mended) -> [u64; 3]) {
+    let all = mended.to_vec();
+    drop_copies(mended);
+    for (clause, old) in mended.iter_mut().zip(&all).filter(|(clause, old)| clause != old) {
+        clause.counts = counts(old);
+    }
+}
+
+/// An answer by which the clauses are written in another order.
+fn with_clauses(mut answer: Answer, change: fn(&mut [Vec<u32>])) -> Answer {
     if let Ok(RuleDraft { mut clauses, prefix }) = draft_by(BENCH, &answer.written) {
-        let before = clauses.len();
         change(&mut clauses);
-        answer.numbers[1] += (before - clauses.len()) as u64;
         answer.written = RuleDraft { clauses, prefix }.bytes();
-        answer.numbers[0] = answer.written.len() as u64;
     }
     answer
 }
@@ -359,7 +485,7 @@ fn without_repeats(rule: &[u8]) -> Option<RuleDraft> {
 }
 
 /// The repair's reader without 6.
-const ANY_LITERAL: Reader = Reader { left_out: &[6, 7, 23], ..BENCH };
+const ANY_LITERAL: Reader = Reader { left_out: &[6, 7, 23, 26], ..BENCH };
 
 /// The clauses of a file that 6 refuses; none for another, or if 8 or 9 would refuse it too.
 fn refused_by_6(call: Call, answer: &Answer) -> Option<RuleDraft> {
@@ -374,21 +500,26 @@ fn with_6_in_kept(call: Call, answer: Answer) -> Answer {
     let fails = |list: &Vec<u32>| !has_opposites(list) && list.iter().any(|literal| *literal >= bound);
     match rule.clauses.iter().position(fails) {
         Some(clause) => Answer::refused((6, Some(clause))),
-        None => repairing(repair_with(ANY_LITERAL, mend, call.rule, call.capacity)),
+        None => repairing(repair_with(ANY_LITERAL, |clauses| mend_all(mend, clauses), call.rule, call.capacity)),
     }
 }
 
 fn with_number_of_kept(call: Call, mut answer: Answer) -> Answer {
     if let Some(rule) = refused_by_6(call, &answer) {
-        let before = &rule.clauses[..answer.numbers[0] as usize];
-        answer.numbers[0] = before.iter().filter(|list| !has_opposites(list)).count() as u64;
+        let before = mend_all(mend, &rule.clauses[..answer.numbers[0] as usize]);
+        answer.numbers[0] = before.iter().filter(|clause| clause.literals.is_some()).count() as u64;
     }
     answer
 }
 
 impl Notion {
     fn answer(&self, call: Call) -> Answer {
-        (self.change)(call, repairing(repair_with(self.reader, self.clause, call.rule, call.capacity)))
+        let mend = |clauses: &[Vec<u32>]| {
+            let mut mended: Vec<Mended> = clauses.iter().map(|clause| (self.clause)(clause)).collect();
+            (self.copies)(clauses, &mut mended);
+            mended
+        };
+        (self.change)(call, repairing(repair_with(self.reader, mend, call.rule, call.capacity)))
     }
 }
 

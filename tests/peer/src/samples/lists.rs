@@ -249,6 +249,7 @@ pub fn run() -> Run {
         ("größe", RuleDraft::new(&[&[0]], &[[3, 1]]).bytes()),
         ("1", RuleDraft::new(&[], &[]).bytes()),
         ("refused", to_bytes(&[1, 0, 2, 2, 3, 0, 0, 0, 0, 2, 2, 5, 13])),
+        ("twice", RuleDraft::new(&[&[0], &[0]], &[[3, 1]]).bytes()),
         ("empty", Vec::new()),
     ];
     let lines = [
@@ -271,6 +272,7 @@ pub fn run() -> Run {
         ("1 1 1", Kind::Within),
         ("./sample 0 11", Kind::Above),
         ("refused 0 0", Kind::Refused),
+        ("twice 0 4", Kind::Refused),
         ("empty 0 0", Kind::Refused),
         ("missing 0 50", Kind::Refused),
         (". 0 50", Kind::Refused),

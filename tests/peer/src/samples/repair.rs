@@ -1,6 +1,6 @@
 //! Samples for document 02's repair of stored rule files.
 
-use super::{all_variables, sample, with, List};
+use super::{all_variables, distinct_clauses, sample, with, List};
 use crate::cases::Operation;
 use crate::generate::{longest_rule, RuleDraft};
 use crate::random::Random;
@@ -48,7 +48,9 @@ impl List {
 pub(super) fn repairs(list: &mut List) {
     clauses(list);
     files(list);
+    copies(list);
     many_clauses(list);
+    many_copies(list);
     lengths(list);
     refusals(list);
     orders(list);
@@ -101,25 +103,21 @@ fn files(list: &mut List) {
     list.repaired("sample-turned", &three(&[&[2, 0], &[3], &[4, 2]]), &[&[0, 2], &[3], &[2, 4]], [0, 0, 2]);
     list.repaired("no-clauses", &three(&[]), &[], [0; 3]);
     list.repaired("n-0", &RuleDraft::new(&[], &[]), &[], [0; 3]);
-    list.repaired("n-0-empty-clauses", &RuleDraft::new(&[&[], &[]], &[]), &[&[], &[]], [0; 3]);
+    list.repaired("n-0-empty-clause", &RuleDraft::new(&[&[]], &[]), &[&[]], [0; 3]);
     list.repaired("n-1", &RuleDraft::new(&[&[1], &[0], &[]], &[[1, 65_535]]), &[&[1], &[0], &[]], [0; 3]);
 
     // Kept clauses stay in their order, wherever others are dropped.
-    let all: [&[u32]; 7] = [&[4, 2], &[0, 1], &[2, 2, 0], &[], &[5, 4], &[3], &[0, 4, 0]];
-    list.repaired("mixed", &three(&all), &[&[2, 4], &[0, 2], &[], &[3], &[0, 4]], [2, 2, 2]);
+    let all: [&[u32]; 8] = [&[4, 2], &[0, 1], &[2, 2, 0], &[], &[5, 4], &[3], &[2, 4, 2], &[0, 4, 0]];
+    list.repaired("mixed", &three(&all), &[&[2, 4], &[0, 2], &[], &[3], &[0, 4]], [3, 2, 2]);
     list.repaired("first-dropped", &three(&[&[1, 0], &[4], &[2]]), &[&[4], &[2]], [1, 0, 0]);
     list.repaired("last-dropped", &three(&[&[4], &[2], &[1, 0]]), &[&[4], &[2]], [1, 0, 0]);
     list.repaired("all-dropped", &three(&[&[0, 1], &[3, 2, 2], &[5, 0, 4]]), &[], [3, 0, 0]);
-    list.repaired("empty-clauses-kept", &three(&[&[], &[0, 1], &[]]), &[&[], &[]], [1, 0, 0]);
-    // Copies stay, those that stand in the file and those that the repair makes.
-    let two: &[u32] = &[0, 2];
-    list.repaired("copies", &three(&[two, two, &[2], two]), &[two, two, &[2], two], [0; 3]);
-    list.repaired("copies-made", &three(&[two, &[2, 0], &[0, 2, 0], &[2, 0, 2]]), &[two; 4], [0, 2, 2]);
+    list.repaired("empty-clause-kept", &three(&[&[0, 1], &[]]), &[&[]], [1, 0, 0]);
     // Repeats in a dropped clause and a dropped clause out of order do not count.
     list.repaired("dropped-with-repeats", &three(&[&[2, 2, 3], &[4, 4]]), &[&[4]], [1, 1, 0]);
     list.repaired("dropped-out-of-order", &three(&[&[4, 3, 2], &[4, 2]]), &[&[2, 4]], [1, 0, 1]);
 
-    // The reader refuses a file by 7 or 23; the repair takes it, and the reader takes what it writes.
+    // The reader refuses a file by 7, 23 or 26; the repair takes it, and the reader takes what it writes.
     let twice = three(&[&[3], &[2, 2]]);
     list.read("repair-read-7", &twice.words(), 7, &[1]);
     list.repaired("read-7", &twice, &[&[3], &[2]], [0, 1, 0]);
@@ -128,6 +126,9 @@ fn files(list: &mut List) {
     list.read("repair-read-23", &turned.words(), 23, &[1]);
     list.repaired("read-23", &turned, &[&[3], &[2, 4]], [0, 0, 1]);
     list.read("repair-read-23-after", &three(&[&[3], &[2, 4]]).words(), 0, &[3, 2, 5, 50]);
+    let copied = three(&[&[3], &[2, 4], &[3]]);
+    list.read("repair-read-26", &copied.words(), 26, &[2]);
+    list.repaired("read-26", &copied, &[&[3], &[2, 4]], [1, 0, 0]);
 
     // Weights and wholes at their borders.
     let mut thirty = RuleDraft { clauses: vec![vec![58, 0, 58], vec![3, 2]], prefix: vec![[1, 3]; 30] };
@@ -137,6 +138,72 @@ fn files(list: &mut List) {
     list.unrepaired("repair-whole-over-2^60-less", &thirty.bytes(), 0, 9, &[]);
     let large = RuleDraft::new(&[&[3, 0], &[1, 1]], &[[65_535, 65_535], [1, 65_535]]);
     list.repaired("weights-65535", &large, &[&[0, 3], &[1]], [0, 1, 1]);
+}
+
+/// Copies, which are found once the clauses are in order and without repeats: the first stays, each later one counts
+/// among the dropped clauses alone.
+fn copies(list: &mut List) {
+    let mut check = |name: &str, clauses: &[&[u32]], kept: &[&[u32]], counts| {
+        let rule = RuleDraft::new(clauses, &[[4, 1], [0, 0], [3, 7]]);
+        list.repaired(&format!("copies-{name}"), &rule, kept, counts);
+    };
+    let [a, b, c]: [&[u32]; 3] = [&[0, 2], &[3], &[2, 4]];
+    // As they stand: nothing else is to do.
+    check("a-a", &[a, a], &[a], [1, 0, 0]);
+    check("a-b-a", &[a, b, a], &[a, b], [1, 0, 0]);
+    check("a-b-b-a", &[a, b, b, a], &[a, b], [2, 0, 0]);
+    check("a-a-b", &[a, a, b], &[a, b], [1, 0, 0]);
+    check("b-a-a-c", &[b, a, a, c], &[b, a, c], [1, 0, 0]);
+    check("a-a-a", &[a, a, a], &[a], [2, 0, 0]);
+    check("a-b-a-c-a-b", &[a, b, a, c, a, b], &[a, b, c], [3, 0, 0]);
+    // Once in order: of the two the first tells whether one is reordered.
+    check("second-turned", &[&[0, 2], &[2, 0]], &[a], [1, 0, 0]);
+    check("first-turned", &[&[2, 0], &[0, 2]], &[a], [1, 0, 1]);
+    check("both-turned", &[&[2, 0], &[2, 0]], &[a], [1, 0, 1]);
+    check("turned-apart", &[&[4, 2], b, &[2, 4], &[2, 0], c], &[c, b, a], [2, 0, 2]);
+    check("in-all-orders", &[&[0, 3, 4], &[4, 3, 0], &[3, 4, 0], &[0, 4, 3]], &[&[0, 3, 4]], [3, 0, 0]);
+    // Once without repeats: those of the first count, those of a copy do not.
+    check("second-with-repeat", &[&[2], &[2, 2]], &[&[2]], [1, 0, 0]);
+    check("first-with-repeat", &[&[2, 2], &[2]], &[&[2]], [1, 1, 0]);
+    check("both-with-repeats", &[&[3, 3], &[3, 3, 3]], &[b], [1, 1, 0]);
+    check("second-with-repeat-of-two", &[&[0, 2], &[0, 2, 0]], &[a], [1, 0, 0]);
+    check("first-with-repeat-of-two", &[&[0, 2, 0], &[0, 2]], &[a], [1, 1, 0]);
+    // Once both: the first turned, a copy with repeats, and the other way about.
+    check("turned-and-with-repeat", &[&[2, 0], &[0, 0, 2]], &[a], [1, 0, 1]);
+    check("with-repeat-and-turned", &[&[0, 0, 2], &[2, 0]], &[a], [1, 1, 0]);
+    check("made", &[a, &[2, 0], &[0, 2, 0], &[2, 0, 2]], &[a], [3, 0, 0]);
+    check("made-of-the-last", &[&[2, 0, 2], &[0, 2, 0], &[2, 0], a], &[a], [3, 1, 1]);
+    // Empty clauses.
+    check("empty", &[&[], &[]], &[&[]], [1, 0, 0]);
+    check("empty-apart", &[&[], &[0, 1], a, &[]], &[&[], a], [2, 0, 0]);
+    check("empty-of-three", &[a, &[], &[], b, &[]], &[a, &[], b], [2, 0, 0]);
+    // A clause that holds opposites is dropped, and so is its copy: each counts once.
+    check("opposed", &[&[0, 1], &[0, 1]], &[], [2, 0, 0]);
+    check("opposed-turned", &[&[0, 1], &[1, 0]], &[], [2, 0, 0]);
+    check("opposed-with-repeat", &[&[0, 1], &[0, 0, 1]], &[], [2, 0, 0]);
+    check("opposed-of-three", &[&[4, 5], a, &[4, 5], a, &[5, 4]], &[a], [4, 0, 0]);
+    check("opposed-beside", &[&[0, 2, 1], a, &[2, 0]], &[a], [2, 0, 0]);
+    // No copies: clauses that begin or end alike, other signs, and those that only have the same variables.
+    check("none-begin-alike", &[&[0], a, &[0, 2, 4]], &[&[0], a, &[0, 2, 4]], [0; 3]);
+    check("none-end-alike", &[&[4, 2, 0], &[4, 2], &[4]], &[&[0, 2, 4], c, &[4]], [0, 0, 2]);
+    check("none-without-repeats", &[&[2, 2], &[2, 2, 4], &[5, 5, 2]], &[&[2], c, &[2, 5]], [0, 3, 1]);
+    check("none-by-signs", &[&[0, 2], &[3, 0], &[1, 2], &[3, 1]], &[a, &[0, 3], &[1, 2], &[1, 3]], [0, 0, 2]);
+
+    // No variables, and one.
+    let none = RuleDraft::new(&[&[], &[], &[]], &[]);
+    list.repaired("copies-n-0", &none, &[&[]], [2, 0, 0]);
+    let one = RuleDraft::new(&[&[1], &[0], &[1], &[], &[0]], &[[1, 65_535]]);
+    list.repaired("copies-n-1", &one, &[&[1], &[0], &[]], [2, 0, 0]);
+    // The sample with its first clause twice; its figure and its derivation are those of the sample.
+    let mut twice = sample().0;
+    twice.clauses.insert(1, vec![2, 0]);
+    list.repaired("copies-sample", &twice, &[a, b, c], [1, 0, 0]);
+    // 32 literals, as they stand and falling; and but for the last.
+    let wide = |clauses: &[&[u32]]| RuleDraft::new(clauses, &[[1, 1]; 32]);
+    let (all, falling) = (all_variables(), all_variables().into_iter().rev().collect::<Vec<u32>>());
+    list.repaired("copies-32-literals", &wide(&[&all, &all]), &[&all], [1, 0, 0]);
+    list.repaired("copies-32-literals-falling", &wide(&[&falling, &all, &falling]), &[&all], [2, 0, 1]);
+    list.repaired("copies-none-of-32-literals", &wide(&[&falling, &all[..31]]), &[&all, &all[..31]], [0, 0, 1]);
 }
 
 /// The longest clauses, and the most of them.
@@ -164,25 +231,64 @@ fn many_clauses(list: &mut List) {
     list.repaired("opposites-at-ends", &ends(62, 63), &[], [1, 0, 0]);
     list.repaired("opposites-at-ends-turned", &ends(63, 62), &[], [1, 0, 0]);
 
-    // 1,024 clauses: with nothing to do, all of them reordered, shortened and dropped, and each of the four in turn.
-    let mut many = |name: &str, clause: fn(usize) -> &'static [u32], kept: &[&[u32]], counts| {
-        let clauses = (0..1_024).map(|at| clause(at).to_vec()).collect();
-        let rule = RuleDraft { clauses, prefix: vec![[1, 2], [0, 0]] };
-        let kept = RuleDraft::new(kept, &rule.prefix);
-        list.repair(format!("repair-1024-clauses-{name}"), &rule, rule.bytes().len(), &kept, counts);
+    // 1,024 different clauses: with nothing to do, all of them reordered, shortened and dropped, and each of the four
+    // in turn.
+    let mut many = |name: &str, change: fn(usize, &mut Vec<u32>), kept: fn(usize) -> bool, counts| {
+        let rule = distinct_clauses(1_024, 1);
+        let mut changed = rule.clone();
+        changed.clauses.iter_mut().enumerate().for_each(|(at, clause)| change(at, clause));
+        let clauses = (0..1_024).filter(|at| kept(*at)).map(|at| rule.clauses[at].clone()).collect();
+        let kept = RuleDraft { clauses, prefix: rule.prefix };
+        list.repair(format!("repair-1024-clauses-{name}"), &changed, changed.bytes().len(), &kept, counts);
     };
-    let rising: &[u32] = &[0, 2];
-    many("in-order", |_| &[0, 2], &[rising; 1_024], [0; 3]);
-    many("reordered", |_| &[2, 0], &[rising; 1_024], [0, 0, 1_024]);
-    many("shortened", |_| &[3, 3], &[&[3][..]; 1_024], [0, 1_024, 0]);
-    many("dropped", |_| &[1, 0], &[], [1_024, 0, 0]);
-    let kept: Vec<&[u32]> = (0..768).map(|at| if at % 3 == 2 { &[3][..] } else { rising }).collect();
-    many("mixed", |at| [&[0, 2], &[2, 0], &[1, 0], &[3, 3]][at % 4], &kept, [256, 256, 256]);
-    many("empty", |_| &[], &[&[][..]; 1_024], [0; 3]);
-    many("empty-last-dropped", |at| if at < 1_023 { &[] } else { &[3, 2] }, &[&[][..]; 1_023], [1, 0, 0]);
+    many("in-order", |_, _| {}, |_| true, [0; 3]);
+    many("reordered", |_, clause| clause.reverse(), |_| true, [0, 0, 1_024]);
+    many("shortened", |_, clause| clause.push(clause[0]), |_| true, [0, 1_024, 0]);
+    many("dropped", |_, clause| clause.push(0), |_| false, [1_024, 0, 0]);
+    let mixed = |at: usize, clause: &mut Vec<u32>| match at % 4 {
+        1 => clause.reverse(),
+        2 => clause.push(0),
+        3 => clause.push(clause[2]),
+        _ => {}
+    };
+    many("mixed", mixed, |at| at % 4 != 2, [256, 256, 256]);
+    many("last-dropped", |at, clause| clause.extend((at == 1_023).then_some(0)), |at| at < 1_023, [1, 0, 0]);
 }
 
-/// The longest file: with all clauses but the first reordered, and with all but the first dropped.
+/// 1,024 clauses with copies among them, and all of them copies of one.
+fn many_copies(list: &mut List) {
+    let rule = distinct_clauses(1_024, 1);
+    let mut check = |name: &str, copies: &[(usize, usize)]| {
+        let mut stored = rule.clone();
+        for &(from, to) in copies {
+            stored.clauses[to] = rule.clauses[from].iter().rev().copied().collect();
+        }
+        let gone = |at: &usize| copies.iter().all(|(_, to)| to != at);
+        let clauses = (0..1_024).filter(gone).map(|at| rule.clauses[at].clone()).collect();
+        let kept = RuleDraft { clauses, prefix: rule.prefix.clone() };
+        let counts = [copies.len() as u64, 0, 0];
+        list.repair(format!("repair-1024-clauses-copy-{name}"), &stored, stored.bytes().len(), &kept, counts);
+    };
+    for (from, to) in [(0, 1), (0, 1_023), (1_022, 1_023), (511, 512)] {
+        check(&format!("of-{from}-at-{to}"), &[(from, to)]);
+    }
+    check("of-0-thrice", &[(0, 1), (0, 700), (0, 1_023)]);
+    let half: Vec<(usize, usize)> = (0..512).map(|at| (at, 1_023 - at)).collect();
+    check("of-each-of-512", &half);
+
+    let mut all = |name: &str, clause: &[u32], kept: &[&[u32]], counts| {
+        let rule = RuleDraft { clauses: vec![clause.to_vec(); 1_024], prefix: vec![[1, 2], [0, 0]] };
+        let kept = RuleDraft::new(kept, &rule.prefix);
+        list.repair(format!("repair-1024-copies-{name}"), &rule, rule.bytes().len(), &kept, counts);
+    };
+    all("in-order", &[0, 2], &[&[0, 2]], [1_023, 0, 0]);
+    all("out-of-order", &[2, 0], &[&[0, 2]], [1_023, 0, 1]);
+    all("with-repeats", &[3, 3], &[&[3]], [1_023, 1, 0]);
+    all("opposed", &[1, 0], &[], [1_024, 0, 0]);
+    all("empty", &[], &[&[]], [1_023, 0, 0]);
+}
+
+/// The longest file: with all clauses but the first reordered, with all but the first dropped, and with copies.
 fn lengths(list: &mut List) {
     let longest = longest_rule([0, 0]);
     let mut falling = longest.clone();
@@ -193,6 +299,14 @@ fn lengths(list: &mut List) {
     opposed.clauses[1..].iter_mut().for_each(|clause| *clause.last_mut().unwrap() = 1);
     let first = RuleDraft::new(&[&[0]], &longest.prefix);
     list.repair("repair-length-65536-dropped", &opposed, 65_536, &first, [1_023, 0, 0]);
+    // All variables as themselves: the clauses from 1 on are of two lengths, 15 and from clause 970 on 14.
+    let mut copied = longest.clone();
+    copied.clauses.iter_mut().flatten().for_each(|literal| *literal &= !1);
+    let clauses = [0, 1, 970].map(|at| copied.clauses[at].clone()).to_vec();
+    let kept = RuleDraft { clauses, prefix: longest.prefix.clone() };
+    list.repair("repair-length-65536-copies", &copied, 65_536, &kept, [1_021, 0, 0]);
+    copied.clauses.iter_mut().for_each(|clause| clause.reverse());
+    list.repair("repair-length-65536-copies-falling", &copied, 65_536, &kept, [1_021, 0, 2]);
     falling.clauses[1_023].push(31);
     list.unrepaired("repair-length-65540", &falling.bytes(), 65_540, 1, &[]);
 }
@@ -203,7 +317,7 @@ fn stored() -> RuleDraft {
     RuleDraft::new(&[&[4, 0, 4], &[2, 3], &[2, 2], &[5, 1]], &[[4, 1], [0, 0], [3, 7]])
 }
 
-/// Each of 1 to 6, 8 and 9 on both sides of its border, in files that 7 and 23 would refuse, with a buffer of the
+/// Each of 1 to 6, 8 and 9 on both sides of its border, in files that 7, 23 or 26 would refuse, with a buffer of the
 /// file's length and with none: 25 stands after them.
 fn refusals(list: &mut List) {
     let rule = stored();
@@ -254,6 +368,14 @@ fn refusals(list: &mut List) {
     }
     let large = RuleDraft { prefix: vec![[32_768, 32_768]; 4], ..rule };
     refused("whole-2^64", &large.bytes(), 9, &[]);
+    // Copies, which are dropped, and a fault before or after them: the place is the old file's.
+    let copied = |clauses: &[&[u32]], pair| RuleDraft::new(clauses, &[[1, 1], [1, 1], pair]).bytes();
+    refused("copies-k-over-n", &copied(&[&[0], &[0], &[0, 2, 4, 1]], [1, 1]), 5, &[2]);
+    refused("copies-literal-2n", &copied(&[&[0], &[0], &[], &[], &[6]], [1, 1]), 6, &[4]);
+    refused("copies-of-literal-2n", &copied(&[&[0], &[6], &[6]], [1, 1]), 6, &[1]);
+    refused("copies-weights", &copied(&[&[0], &[0]], [1, 0]), 8, &[2]);
+    let large = RuleDraft::new(&[&[0], &[0]], &[[32_768, 32_768]; 4]);
+    refused("copies-whole", &large.bytes(), 9, &[]);
 
     // Literals of 2n or more that are repeats, opposites, or beside opposites.
     let three = |clauses: &[&[u32]]| RuleDraft::new(clauses, &[[1, 2]; 3]).bytes();
@@ -335,6 +457,8 @@ fn random_files(list: &mut List) {
             if repeats < room && random.once_in(3) {
                 clause.insert(random.below(clause.len() + 1), random.pick(&kept) ^ 1);
                 counts[0] += 1;
+            } else if repaired.clauses.contains(&kept) {
+                counts[0] += 1;
             } else {
                 counts[1] += repeats as u64;
                 counts[2] += reordered;
@@ -347,11 +471,12 @@ fn random_files(list: &mut List) {
     }
 }
 
-/// The files above that the bench's reader has read, unless 7 or 23 refuses them: the same refusal, or the same file.
+/// The files above that the bench's reader has read, unless 7, 23 or 26 refuses them: the same refusal, or the same
+/// file.
 fn files_above(list: &mut List) {
     for case in list.0.clone() {
         let alone = case.operation == Operation::Read && !case.name.starts_with("small-");
-        if !alone || case.rule.len() > 4_096 || matches!(case.expected.code, 7 | 23) {
+        if !alone || case.rule.len() > 4_096 || matches!(case.expected.code, 7 | 23 | 26) {
             continue;
         }
         let name = format!("{}-repair", case.name);

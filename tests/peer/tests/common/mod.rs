@@ -44,10 +44,10 @@ const NAMES: [&str; 11] = [
 ];
 
 /// One more than the highest number that is returned.
-const NUMBERS: usize = 26;
+const NUMBERS: usize = 27;
 
 /// The reader's refusals that name a clause or a variable.
-pub const NAMING: [u32; 5] = [5, 6, 7, 23, 8];
+pub const NAMING: [u32; 6] = [5, 6, 7, 23, 26, 8];
 
 /// Files whose tree has more nodes times clauses than this are read but not solved.
 const MOST_STEPS: u128 = 2_000_000;

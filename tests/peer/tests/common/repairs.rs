@@ -1,13 +1,13 @@
 //! What the files were that the repair took, and the buffers that it was lent.
 
 use peer::answer::Answer;
-use peer::repair::has_opposites;
-use peer::rules::{self, draft_by, RuleDraft, REPAIR};
+use peer::repair::{first_occurrences, has_opposites};
+use peer::rules::{self, draft_by, first_copy, RuleDraft, REPAIR};
 
 /// A kind of files, told by the old file and the new one.
 type Shape = (&'static str, fn(&RuleDraft, &RuleDraft) -> bool);
 
-const SHAPES: [Shape; 11] = [
+const SHAPES: [Shape; 16] = [
     ("no variables", |old, _| old.prefix.is_empty()),
     ("32 variables", |old, _| old.prefix.len() == 32),
     ("no clauses", |old, _| old.clauses.is_empty()),
@@ -17,14 +17,52 @@ const SHAPES: [Shape; 11] = [
     ("the first clause dropped alone", |old, new| drops_alone(old, new, old.clauses.first())),
     ("the last clause dropped alone", |old, new| drops_alone(old, new, old.clauses.last())),
     ("an empty clause kept", |_, new| new.clauses.contains(&Vec::new())),
-    ("copies kept", |_, new| (1..new.clauses.len()).any(|at| new.clauses[..at].contains(&new.clauses[at]))),
+    ("the last clause dropped alone, a copy", |old, new| {
+        let copy = first_copy(&made(&kept(&old.clauses), ordered));
+        old.clauses.len() == new.clauses.len() + 1 && copy == Some(new.clauses.len())
+    }),
+    ("copies as they stand", |old, _| first_copy(&kept(&old.clauses)).is_some()),
+    ("copies once in order alone", |old, _| {
+        let kept = kept(&old.clauses);
+        first_copy(&kept).is_none() && first_copy(&made(&kept, sorted)).is_some()
+    }),
+    ("copies once without repeats alone", |old, _| {
+        let kept = kept(&old.clauses);
+        first_copy(&made(&kept, sorted)).is_none() && first_copy(&made(&kept, ordered)).is_some()
+    }),
+    ("two empty clauses", |old, _| old.clauses.iter().filter(|list| list.is_empty()).count() > 1),
+    ("one clause with opposites twice", |old, _| {
+        let opposed: Vec<&Vec<u32>> = old.clauses.iter().filter(|list| has_opposites(list)).collect();
+        first_copy(&opposed).is_some()
+    }),
     ("a clause of all variables reordered", |old, new| {
         let all = |list: &&Vec<u32>| list.len() > 2 && list.len() == old.prefix.len() && !list.is_sorted();
         old.clauses.iter().filter(all).any(|list| new.clauses.iter().any(|kept| kept.len() == list.len()))
     }),
 ];
 
-/// Whether one clause is dropped, this one, and others are kept.
+/// The clauses that are not dropped for opposites, as they stand.
+fn kept(clauses: &[Vec<u32>]) -> Vec<&Vec<u32>> {
+    clauses.iter().filter(|list| !has_opposites(list)).collect()
+}
+
+/// What is made of each clause.
+fn made(clauses: &[&Vec<u32>], make: fn(&[u32]) -> Vec<u32>) -> Vec<Vec<u32>> {
+    clauses.iter().map(|list| make(list)).collect()
+}
+
+fn sorted(list: &[u32]) -> Vec<u32> {
+    let mut list = list.to_vec();
+    list.sort_unstable();
+    list
+}
+
+/// In order and without repeats.
+fn ordered(list: &[u32]) -> Vec<u32> {
+    sorted(&first_occurrences(list))
+}
+
+/// Whether one clause is dropped for opposites, this one, and others are kept.
 fn drops_alone(old: &RuleDraft, new: &RuleDraft, clause: Option<&Vec<u32>>) -> bool {
     let one = !new.clauses.is_empty() && old.clauses.len() == new.clauses.len() + 1;
     one && clause.is_some_and(|clause| has_opposites(clause))
@@ -36,8 +74,8 @@ pub struct Repairs {
     shapes: [u64; SHAPES.len()],
     /// Files by the counts that are over 0: 1 for clauses dropped, 2 for literals dropped, 4 for clauses reordered.
     counts: [u64; 8],
-    /// Files that the reader accepts, refuses by 7 and by 23.
-    readings: [u64; 3],
+    /// Files that the reader accepts, refuses by 7, by 23 and by 26.
+    readings: [u64; 4],
     /// Buffers of no byte, as long as a new file that is shorter than the old; of 4 and 1 bytes less than the old file,
     /// as long as it, of a byte more and of more.
     buffers: [u64; 7],
@@ -55,7 +93,8 @@ impl Repairs {
         let reading = match rules::read(rule) {
             Ok(_) => 0,
             Err((7, _)) => 1,
-            Err(_) => 2,
+            Err((23, _)) => 2,
+            Err(_) => 3,
         };
         self.readings[reading] += 1;
         let (long, short) = (rule.len(), repaired.written.len());
@@ -89,6 +128,6 @@ impl Repairs {
         if *counts == [0; 8] {
             return String::new();
         }
-        format!("  repaired, by counts over 0: {counts:?}; read, 7, 23: {readings:?}; buffers: {buffers:?}\n")
+        format!("  repaired, by counts over 0: {counts:?}; read, 7, 23, 26: {readings:?}; buffers: {buffers:?}\n")
     }
 }
