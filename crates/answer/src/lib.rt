@@ -1,4 +1,5 @@
 // The one refusal, in every operation's answer.
+#![tactic(auto)]
 
 // Why a file, a limit or a level is refused.
 #[derive(Drop)]

@@ -1,4 +1,6 @@
 // Sets of numbers under 64 as the bits of one word: x is in the set where the bit 1 << x is.
+#![tactic(auto)]
+
 ghost use Rattle.std.specs.Prelude.{◌≡◌, ◌<◌};
 ghost use Rattle.formula.specs.Formula.{opposite};
 ghost use Rattle.bit_set.specs.BitSet.{has, including, from, alone, pairs, has_pair, paired};

@@ -1,4 +1,6 @@
 // Text and numbers put into a buffer, piece after piece. Each function answers the index past what it put.
+#![tactic(auto)]
+
 ghost use Rattle.std.specs.Prelude.{◌≡◌, ◌∷◌, ◌+◌, ◌*◌, ◌≤◌, length};
 ghost use Rattle.buffer.specs.Text.{Put, decimal, after_blanks, line};
 

@@ -1,4 +1,6 @@
 // An answer as a C function hands it over: a number returned, and four numbers in the array that the caller lends.
+#![tactic(auto)]
+
 ghost use Rattle.std.specs.Prelude.{◌≡◌, [], ◌∷◌};
 ghost use Rattle.std.proofs.lemmas.List.Edits.{sets};
 ghost use Rattle.answer.specs.Answer.{number_of, place_of};

@@ -1,5 +1,7 @@
 // A reader that carries a rule file along with its place in it and gives clause after clause: a thin layer over the
 // functions of `cursor`, which take a slice and a cursor.
+#![tactic(auto)]
+
 pub mod cursor;
 
 ghost use Rattle.std.specs.Prelude.{◌≡◌};

@@ -1,5 +1,7 @@
 // The first clause of a file that equals an earlier one: by chains of sets with the same hash, or pair by pair without
 // a table.
+#![tactic(auto)]
+
 pub mod chains;
 
 ghost use Rattle.std.specs.Prelude.{◌≡◌, ◌+◌, ◌≤◌};

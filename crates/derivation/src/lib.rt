@@ -1,5 +1,7 @@
 // What the check of a derivation answers. The definition is in specs/, and that an accepted derivation closes with the
 // figure in proofs/.
+#![tactic(auto)]
+
 use answer::Refusal;
 
 // The value of the empty clause that the derivation closes with, out of the whole.

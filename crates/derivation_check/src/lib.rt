@@ -1,4 +1,6 @@
 // Checks a derivation over a rule file, line by line, with document 01's refusals in their order.
+#![tactic(auto)]
+
 mod judge;
 mod lines;
 mod parent;

@@ -1,4 +1,6 @@
 // What the program ssat_derive prints for a rule file, byte for byte.
+#![tactic(auto)]
+
 ghost use Rattle.std.specs.Prelude.{◌≡◌};
 ghost use Rattle.buffer.specs.Text.{Begins};
 ghost use Rattle.derive_report.specs.DeriveReport.{derive_text};

@@ -1,5 +1,7 @@
 // The status of a literal, a clause or a formula under a partial assignment. The meaning of formulas and prefixes
 // is in specs/, and its laws in proofs/.
+#![tactic(auto)]
+
 #[derive(Drop)]
 pub enum Status {
     // A clause all of whose literals are false, or a formula with such a clause: of a node, document 01's lost.

@@ -1,4 +1,6 @@
 // The job list: its lines, and the file name and the two limits that a line gives.
+#![tactic(auto)]
+
 ghost use Rattle.std.specs.Prelude.{◌≡◌, ◌≤◌, length};
 ghost use Rattle.job_list.specs.JobList.{max_list_bytes, list_lines, list_line_at, limit_of, is_name, job_of, list_file, limiting, parsing, name_within, listing};
 

@@ -1,4 +1,5 @@
 // The limits of files, each named once; specs/Limits.antt has the same.
+#![tactic(auto)]
 
 // The longest file, a rule file or a derivation.
 pub const MAX_BYTES: usize = 65536;

@@ -1,5 +1,7 @@
 // Document 01's plain forms of figure, verdict and cut for programs in other languages, to compare with those that
 // include/ssat.h declares. No part of that interface; parameters, numbers returned and numbers stored are the same.
+#![tactic(auto)]
+
 ghost use Rattle.std.specs.Prelude.{◌≡◌};
 ghost use Rattle.value.specs.Value.{figure_file, verdict_file};
 ghost use Rattle.value.specs.Cut.{cut_file};

@@ -1,5 +1,7 @@
 // What the marks and the point of a cut answer: its exact numbers, each divided by the whole, as doubles; what is read
 // before; and how the numbers become doubles. The definitions are in specs/; what is proved of the marks in proofs/.
+#![tactic(auto)]
+
 ghost use Rattle.std.specs.Prelude.{◌≡◌, ◌≤◌};
 ghost use Rattle.limits.specs.Limits.{max_plotted};
 ghost use Rattle.answer.specs.Answer.{answer};

@@ -1,4 +1,6 @@
 // What the program ssat_repair prints for a rule file, byte for byte: to standard output and to standard error.
+#![tactic(auto)]
+
 ghost use Rattle.std.specs.Prelude.{◌≡◌};
 ghost use Rattle.buffer.specs.Text.{Put, Begins};
 ghost use Rattle.repair_report.specs.RepairReport.{repair_output, counts_text, repair_notice};

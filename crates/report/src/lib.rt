@@ -1,4 +1,6 @@
 // The text that the program prints for a rule file, byte for byte.
+#![tactic(auto)]
+
 ghost use Rattle.std.specs.Prelude.{◌≡◌, ◌+◌, ◌*◌, ◌≤◌, suc, length};
 ghost use Rattle.limits.specs.Limits.{max_variables};
 ghost use Rattle.buffer.specs.Text.{Put, Begins};

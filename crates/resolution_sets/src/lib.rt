@@ -1,5 +1,7 @@
 // The tests that S-resolution makes, on clauses as sets of literals, and the tables over a rule file that they read. A
 // set is a 64-bit mask: bit l is literal l.
+#![tactic(auto)]
+
 mod blocking;
 mod clause;
 mod denominator;

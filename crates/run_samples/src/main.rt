@@ -10,6 +10,8 @@
 // the number of its lines, and of each line the length of the name and the limits, or `other`. A tally's line is the
 // verdict's, a refusal's too, and the counts after it. A double is the number that its 64 bits are; before the marks
 // stands `one` or `two`.
+#![tactic(auto)]
+
 ghost use Rattle.std.specs.Prelude.{◌<◌};
 ghost use Rattle.io.specs.Counts.{IsPrefixLen};
 

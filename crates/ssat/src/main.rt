@@ -1,5 +1,7 @@
 // Reads a rule file from standard input and prints n, m, the whole, the figure and the cut at every level, or the
 // refusal.
+#![tactic(auto)]
+
 use libc::{STDIN_FILENO, STDOUT_FILENO};
 use limits::MAX_BYTES;
 

@@ -1,5 +1,7 @@
 // The operations for programs in other languages: numbers in, a number out, and the values in an array or a tally that
 // the caller lends. include/ssat.h declares them.
+#![tactic(auto)]
+
 ghost use Rattle.std.specs.Prelude.{◌≡◌, length};
 ghost use Rattle.answer.specs.Answer.{buffer_after};
 ghost use Rattle.rule_file.specs.Reader.{reading, read_file, read_small};

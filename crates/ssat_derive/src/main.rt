@@ -1,4 +1,6 @@
 // Reads a rule file from standard input and prints its derivation, as the bytes of a derivation file, or the refusal.
+#![tactic(auto)]
+
 use derive_report::derivation_or_refusal;
 use libc::{STDIN_FILENO, STDOUT_FILENO};
 use limits::MAX_BYTES;

@@ -1,5 +1,7 @@
 // Reads a rule file from standard input and prints its repaired file to standard output, and to standard error the
 // repair's counts, or the refusal.
+#![tactic(auto)]
+
 use libc::{STDERR_FILENO, STDIN_FILENO, STDOUT_FILENO};
 use limits::MAX_BYTES;
 use repair_report::output_and_notice;

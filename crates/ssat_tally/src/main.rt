@@ -1,5 +1,7 @@
 // Reads a job list from standard input, judges each file that it names and prints the five counts of the tally, or the
 // list's refusal.
+#![tactic(auto)]
+
 ghost use Rattle.std.specs.Prelude.{◌≡◌, List, ◌≤◌, length};
 ghost use Rattle.buffer.specs.Text.{Begins};
 ghost use Rattle.tally.specs.Tally.{begun, tally_after};

@@ -1,4 +1,6 @@
 // The tally over a list of files: five counts that take in each file's result as it comes.
+#![tactic(auto)]
+
 ghost use Rattle.std.specs.Prelude.{◌≡◌};
 ghost use Rattle.value.specs.Value.{judging};
 ghost use Rattle.tally.specs.Tally.{kind_of, begun, is_full, step};

@@ -1,4 +1,6 @@
 // The text that the program ssat_tally prints for a tally, byte for byte.
+#![tactic(auto)]
+
 ghost use Rattle.buffer.specs.Text.{Begins};
 ghost use Rattle.tally_report.specs.TallyReport.{tally_text};
 

@@ -1,4 +1,6 @@
 // The words of a file of bytes, and its parts; and words put into a buffer.
+#![tactic(auto)]
+
 pub mod put;
 
 ghost use Rattle.std.specs.Prelude.{◌≡◌, ◌+◌, ◌^◌, ◌<◌};
