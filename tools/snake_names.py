@@ -3,7 +3,7 @@
 
 usage: python3 tools/snake_names.py [--dry]      at the top of the repository, once, after port.py
 
-In proof files, specifications and contracts a name of several words is written with `_`. A name that a file takes from
+In proof files, specifications and contracts a name of several words is written with `_`. Answers and invariants are left. A name that a file takes from
 the library, or from a module that Rattle makes (`Goals`, `Tie`, ..), keeps its spelling, and so does the name of a field
 that Rattle makes. In a comment, a name is turned where it stands in backticks or is a declared name of three or more
 words; in a page, where it stands in backticks. Lists every name that would fall together with another one, and then writes nothing.
@@ -13,7 +13,7 @@ import os
 import re
 import sys
 
-MADE = re.compile(r"\.(Goals|Given|Statement|Tie|Lts|Walk|Steps|Frame)$")
+MADE = re.compile(r"\.proofs\..*\.(Goals|Given|Statement|Tie|Lts)$")
 TOKEN = re.compile(r"[^\s(){}\[\];,.λ@\"`|]+")
 USE = re.compile(r"^\s*(?:unfoldable )?(?:pub )?(?:ghost )?use ([^\s{]+?)(?:\.\{([^}]*)\}| as .*)?;?\s*$")
 DECLARED = re.compile(
@@ -30,7 +30,7 @@ def files(root, ends):
     for folder, dirs, names in os.walk(os.path.join(root, "crates")):
         dirs[:] = sorted(d for d in dirs if d != "out")
         for name in sorted(names):
-            if name.endswith(ends):
+            if name.endswith(ends) and name not in ("Answers.antt", "Invariants.antt"):
                 yield os.path.join(folder, name)
 
 
@@ -51,18 +51,20 @@ def split_comment(line, mark):
     return line[:at], line[at:]
 
 
-def taken(text, own):
-    """The names that a file takes from the library or from a module that Rattle makes."""
+def is_taken_from(path, own):
+    """Whether a module is the library's, or one that Rattle makes."""
+    first = path.split(".")
+    of_own = first[0] == "Rattle" and len(first) > 1 and first[1] in own
+    return not of_own or bool(MADE.search(path)) or ".declared" in path
+
+
+def taken(text, crates):
+    """The names by which a file calls what it takes from the library or from a module that Rattle makes."""
     names = set()
     for line in text.split("\n"):
         m = USE.match(line)
-        if not m or m.group(2) is None:
-            continue
-        first = m.group(1).split(".")
-        of_own = first[0] == "Rattle" and len(first) > 1 and first[1] in own
-        if not of_own or MADE.search(m.group(1)) or ".declared" in m.group(1):
-            names.update(n.split(" as ")[0].strip() for n in m.group(2).split(","))
-            names.update(n.split(" as ")[1].strip() for n in m.group(2).split(",") if " as " in n)
+        if m and m.group(2) is not None and is_taken_from(m.group(1), crates):
+            names.update(n.split(" as ")[-1].strip() for n in m.group(2).split(","))
     return names
 
 
@@ -109,18 +111,26 @@ GHOST = re.compile(r"^\s*ghost ")
 CLAUSE = re.compile(r"^\s*(requires|ensures|decreases|invariant|also_owns|also_shares|let)\b")
 
 
-def turn_antt(text, keep, own):
+def turn_antt(text, keep, own, crates):
     lines = []
     for line in text.split("\n"):
+        m = USE.match(line)
+        if m and is_taken_from(m.group(1), crates):
+            lines.append(line)
+            continue
         code, comment = split_comment(line, "--")
         lines.append(turn_code(code, keep, own) + turn_comment(comment, keep, own))
     return "\n".join(lines)
 
 
-def turn_rt(text, keep, own):
+def turn_rt(text, keep, own, crates):
     """Ghost items and clauses alone: the names of the code stay."""
     lines, depth = [], 0
     for line in text.split("\n"):
+        m = USE.match(line)
+        if m and is_taken_from(m.group(1), crates):
+            lines.append(line)
+            continue
         code, comment = split_comment(line, "//")
         if depth or GHOST.match(code) or CLAUSE.match(code):
             turned = turn_code(code, keep, own)
@@ -151,7 +161,7 @@ def main(argv):
     for path in files(root, (".antt", ".rt")):
         text = open(path, encoding="utf-8").read()
         keep = taken(text, own_crates)
-        turned = turn_antt(text, keep, own) if path.endswith(".antt") else turn_rt(text, keep, own)
+        turned = turn_antt(text, keep, own, own_crates) if path.endswith(".antt") else turn_rt(text, keep, own, own_crates)
         before[path], after[path] = text, turned
     names = declared(root, lambda n: True)
     bad = 0

@@ -6,7 +6,7 @@ pub mod chains;
 
 ghost use Rattle.std.specs.Prelude.{◌≡◌, ◌+◌, ◌≤◌};
 ghost use Rattle.formula.specs.Formula.{some_of, equal};
-ghost use Rattle.words.specs.Walk.{first-copy};
+ghost use Rattle.words.specs.Walk.{first_copy};
 ghost use Rattle.words.specs.Found.{place};
 ghost use Rattle.words.specs.Words.{word_count, words};
 ghost use Rattle.clause_words.specs.Clauses.{after_clause, clause_at, clauses_from};
@@ -23,7 +23,7 @@ const FEW: usize = 20;
 // The first of `count` clauses over n variables that equals an earlier one.
 pub fn first_copy(file: &[u8], n: usize, count: usize) -> Found
     requires { InOrder file.now n count }
-    ensures result_value { place result ≡ first-copy equal (clauses_from file.now count 0) }
+    ensures result_value { place result ≡ first_copy equal (clauses_from file.now count 0) }
     ensures unchanged { file.now ≡ file.now }
 {
     if count <= FEW {
@@ -36,7 +36,7 @@ pub fn first_copy(file: &[u8], n: usize, count: usize) -> Found
 // By chains: where variables rise, equal clauses are those of equal sets.
 fn copy_by_chains(file: &[u8], n: usize, count: usize) -> Found
     requires { InOrder file.now n count }
-    ensures result_value { place result ≡ first-copy equal (clauses_from file.now count 0) }
+    ensures result_value { place result ≡ first_copy equal (clauses_from file.now count 0) }
     ensures unchanged { file.now ≡ file.now }
 {
     let mut sets: [u64; MAX_CLAUSES] = [0; MAX_CLAUSES];
@@ -59,7 +59,7 @@ fn copy_by_chains(file: &[u8], n: usize, count: usize) -> Found
 // Pair by pair, without a table.
 pub fn copy_by_pairs(file: &[u8], count: usize) -> Found
     requires { ClausesWithin file.now count }
-    ensures result_value { place result ≡ first-copy equal (clauses_from file.now count 0) }
+    ensures result_value { place result ≡ first_copy equal (clauses_from file.now count 0) }
     ensures unchanged { file.now ≡ file.now }
 {
     let mut j = 0;

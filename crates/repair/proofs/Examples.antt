@@ -7,7 +7,7 @@ use Rattle.formula.specs.LevelRules.{denominator_by}
 use Rattle.answer.specs.Answer.{refused, answer}
 use Rattle.answer.specs.declared.Refusal.TheVariants.{Alone}
 use Rattle.words.specs.Bytes.{word_bytes, bytes_of}
-use Rattle.words.specs.Walk.{elements, first, first-copy-after, walk}
+use Rattle.words.specs.Walk.{elements, first, first_copy_after, walk}
 use Rattle.words.specs.Words.{word, wrong_length}
 use Rattle.prefix_words.specs.Prefix.{quantifier, malformed}
 use Rattle.clause_words.specs.Clauses.{clause_fits}
@@ -42,7 +42,7 @@ example_reordered = refl
 pub example_unordered : repair_file (bytes_of (2 ∷ 2 ∷ 0 ∷ 0 ∷ 0 ∷ 0 ∷ 0 ∷ 1 ∷ 2 ∷ 3 ∷ 11 ∷ [])) 44 ≡ answer (bytes_of (2 ∷ 0 ∷ 2 ∷ 0 ∷ 0 ∷ 0 ∷ 0 ∷ 1 ∷ 2 ∷ 3 ∷ 11 ∷ []))
 unfolding
     tautological some_of those first_of_each insert_once rising out_of_range repeats unordered denominator_by
-    bytes_of word_bytes elements first first-copy-after walk word wrong_length quantifier
+    bytes_of word_bytes elements first first_copy_after walk word wrong_length quantifier
     wrong_count too_many wrong_prefix clause_fits malformed too_large read_from_8 read_from_26 read_from_6 read_from_5 read_from_3 read_within read_file read_stored
     formula_words rule_words repaired_file repair_file
 example_unordered = refl
@@ -51,7 +51,7 @@ example_unordered = refl
 pub example_room : repair_file (bytes_of (2 ∷ 2 ∷ 2 ∷ 0 ∷ 0 ∷ 0 ∷ 0 ∷ 1 ∷ 2 ∷ 3 ∷ 11 ∷ [])) 43 ≡ refused (Alone 25)
 unfolding
     tautological some_of those first_of_each insert_once rising out_of_range repeats unordered denominator_by
-    bytes_of word_bytes elements first first-copy-after walk word wrong_length quantifier
+    bytes_of word_bytes elements first first_copy_after walk word wrong_length quantifier
     wrong_count too_many wrong_prefix clause_fits malformed too_large read_from_8 read_from_26 read_from_6 read_from_5 read_from_3 read_within read_file read_stored
     formula_words rule_words repaired_file repair_file
 example_room = refl

@@ -15,7 +15,7 @@ use Rattle.formula.proofs.OrderLaws.{ordered_no_repeats}
 use Rattle.limits.specs.Limits.{max_clauses, max_whole}
 use Rattle.answer.specs.Answer.{Answer, refused}
 use Rattle.answer.specs.declared.Refusal.{Refusal}
-use Rattle.words.specs.Walk.{first, first-copy}
+use Rattle.words.specs.Walk.{first, first_copy}
 use Rattle.words.specs.Words.{word_count, stated_count}
 use Rattle.words.proofs.WalkLaws.{first_none, none_first_place, first_either}
 use Rattle.words.proofs.FirstCopyLaws.{none_same}
@@ -67,7 +67,7 @@ module _ (b : List ℕ) (m n start : ℕ) (t : Trailer b m n start) where
   unfolding clause_fails
   check_literals = rw (← t.variable_count_is, ← t.clause_count_is)
 
-  pub check_26 : first-copy equal (clauses b) ≡ first-copy equal (clauses_from b m 0)
+  pub check_26 : first_copy equal (clauses b) ≡ first_copy equal (clauses_from b m 0)
   check_26 = rw (← t.clause_count_is)
 
   -- what 5, 6, 7 and 23 leave for 26
@@ -105,7 +105,7 @@ not_asked f [] = refl
 not_asked f (c ∷ φ) = rw (not_asked f φ)
 
 -- nor does the search for a copy
-pub copies_not_asked : (φ : List (List ℕ)) → first-copy (λ c. asked false (equal c)) φ ≡ none
+pub copies_not_asked : (φ : List (List ℕ)) → first_copy (λ c. asked false (equal c)) φ ≡ none
 copies_not_asked = none_same _ (λ _ _. refl) []
 
 -- 6, 7 and 23 at once: where no clause is ill-formed each is in order, and all three pass

@@ -4,7 +4,7 @@ use Rattle.std.specs.Prelude.{◌≡◌, false, List, ℕ, ◌+◌, ◌-◌, ◌
 use Rattle.std.proofs.Math.Option.{none}
 use Rattle.formula.specs.Formula.{some_of, out_of_range, unordered, equal}
 use Rattle.limits.specs.Limits.{rule_trailer, max_clauses, max_whole}
-use Rattle.words.specs.Walk.{first-copy}
+use Rattle.words.specs.Walk.{first_copy}
 use Rattle.words.specs.Words.{word_count, stated_count, Length}
 use Rattle.prefix_words.specs.Prefix.{malformed}
 use Rattle.clause_words.specs.Clauses.{walk_clauses}
@@ -25,7 +25,7 @@ pub record AcceptedWithin (limits : Limits) (b : List ℕ) : Type 0 where
   pub walked : walk_clauses b (variable_count b) (prefix_start b) (clause_count b) 0 ≡ none
   pub in_range : some_of (out_of_range (variable_count b)) (clauses b) ≡ false
   pub ordered : some_of (asked limits.ordered unordered) (clauses b) ≡ false
-  pub no_copies : first-copy (λ c. asked limits.ordered (equal c)) (clauses b) ≡ none
+  pub no_copies : first_copy (λ c. asked limits.ordered (equal c)) (clauses b) ≡ none
   pub well_formed : some_of malformed (prefix b) ≡ false
   pub bounded : whole b ≤ max_whole
 

@@ -6,7 +6,7 @@ use Rattle.std.specs.Prelude.{ℕ, ◌+◌, ◌-◌, ◌*◌, Bool, not, ◌&&�
 use Rattle.formula.specs.Formula.{out_of_range, repeats, unordered, equal}
 use Rattle.limits.specs.Limits.{rule_trailer, max_clauses, max_whole}
 use Rattle.answer.specs.Answer.{Answer, refused, answer, refuse_if, refuse_at}
-use Rattle.words.specs.Walk.{first, first-copy}
+use Rattle.words.specs.Walk.{first, first_copy}
 use Rattle.words.specs.Words.{word_count, wrong_length, stated_count}
 use Rattle.prefix_words.specs.Prefix.{malformed}
 use Rattle.clause_words.specs.Clauses.{walk_clauses}
@@ -47,7 +47,7 @@ abbrev pub asked : Bool → (List ℕ → Bool) → List ℕ → Bool
 asked ordered f c = ordered && f c
 
 unfoldable pub read_from_26 : Bool → List ℕ → Answer Header
-read_from_26 ordered b = refuse_at (first-copy (λ c. asked ordered (equal c)) (clauses b)) 26 (read_from_8 b)
+read_from_26 ordered b = refuse_at (first_copy (λ c. asked ordered (equal c)) (clauses b)) 26 (read_from_8 b)
 
 unfoldable pub read_from_6 : Bool → List ℕ → Answer Header
 read_from_6 ordered b =

@@ -9,7 +9,7 @@ use Rattle.formula.specs.LevelRules.{denominator_by}
 use Rattle.formula.specs.Tree.{value, evaluate}
 use Rattle.resolution.specs.Resolution.{level, is_resolvent, lookup, require, judge_resolvent, judge, first_refusal, judge_from, empty_value}
 use Rattle.words.specs.Bytes.{word_bytes, bytes_of}
-use Rattle.words.specs.Walk.{elements, first, first-copy-after, walk}
+use Rattle.words.specs.Walk.{elements, first, first_copy_after, walk}
 use Rattle.words.specs.Words.{word, wrong_length}
 use Rattle.prefix_words.specs.Prefix.{quantifier, malformed}
 use Rattle.clause_words.specs.Clauses.{clause_fits}
@@ -31,7 +31,7 @@ pub samples_hold : map (λ (s : Sample). ask s.question) samples ≡ map (λ (s 
 unfolding literal_status_by clause_status_by formula_status_by some_of all_of those first_of_each out_of_range repeats unordered ill_formed without insert_once rising equal
     unset_literals_by is_unit_by are_opposite clash_by node_status_by
     denominator_by value evaluate
-    bytes_of word_bytes elements first first-copy-after walk word wrong_length quantifier
+    bytes_of word_bytes elements first first_copy_after walk word wrong_length quantifier
     wrong_count too_many wrong_prefix clause_fits malformed too_large read_from_8 read_from_26 read_from_6 read_from_5 read_from_3 read_within read_file read_small read_stored
     figure_file read_with_limits verdict verdict_file read_with_level cut_file
     count_trailing_zeros span climb size odd units round div of_int of_fields of_bits share marks_of point_for read_to_plot marks_file point_file

@@ -3,12 +3,12 @@ use mathlib.Core.Path.{◌≡◌, refl}
 use mathlib.Core.List.{[], ◌∷◌, map}
 use mathlib.Core.Option.{none, some}
 use Rattle.formula.specs.Formula.{some_of, equal}
-use Rattle.words.specs.Walk.{first-copy-after, first-copy}
+use Rattle.words.specs.Walk.{first_copy_after, first_copy}
 
 -- none of no clause and of one; of two that are empty the second; of A B B A and of A B A the third; of two of which
 -- one begins the other none; and none of two that have the same literals in another order
 pub example_first_copies :
-    map (first-copy equal) (
+    map (first_copy equal) (
     [] ∷
     ([] ∷ []) ∷
     ([] ∷ [] ∷ []) ∷
@@ -19,5 +19,5 @@ pub example_first_copies :
     []
     )
     ≡ none ∷ none ∷ some 1 ∷ some 2 ∷ some 2 ∷ none ∷ none ∷ []
-unfolding some_of equal first-copy-after
+unfolding some_of equal first_copy_after
 example_first_copies = refl
