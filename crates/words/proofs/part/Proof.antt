@@ -7,13 +7,13 @@ use borrow.Author.Rules.{rules}
 use Rattle.words.proofs.part.Statement.{statement}
 use Rattle.words.proofs.part.Tie as tie
 
-returns : tie.Need-returns
+returns : tie.Need-returns-then-count-i
 returns c = (sym (part_none _ _ _ (omega arith)), refl)
 
-returns_2 : tie.Need-returns-2
+returns_2 : tie.Need-returns-then-count-i-2
 returns_2 c = (sym (part_none _ _ _ (omega arith)), refl)
 
-returns_3 : tie.Need-returns-3
+returns_3 : tie.Need-returns
 returns_3 c =
     let i : ℕ = c.before.before.before.args.i in
     let k : ℕ = c.before.before.before.args.k in
