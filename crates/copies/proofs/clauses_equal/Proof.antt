@@ -5,12 +5,12 @@ use Rattle.copies.proofs.PairLaws.{lengths_differ}
 use Rattle.copies.proofs.clauses_equal.Statement.{statement}
 use Rattle.copies.proofs.clauses_equal.Tie as tie
 
-returns : tie.Need-returns
+returns : tie.Need-returns-then-word-k
 returns c =
-    sym (lengths_differ _ _ _ _ _ (rw (c.before.before.word.ensures.0, c.before.word2.ensures.0) at c.if1.true))
+    sym (lengths_differ _ _ _ _ _ (rw (c.before.before.word-k.ensures.0, c.before.word.ensures.0) at c.if-word-k.true))
 
-returns_2 : tie.Need-returns-2
-returns_2 c = rw (← c.before.before.before.word.ensures.0, ← c.before.before.word2.ensures.0, c.before.if1.false) c.words-equal.ensures
+returns_2 : tie.Need-returns
+returns_2 c = rw (← c.before.before.before.word-k.ensures.0, ← c.before.before.word.ensures.0, c.before.if-word-k.false) c.words_equal.ensures
 
 pub clauses_equal_spec : {M : Type 1} → statement M
 clauses_equal_spec =

@@ -20,10 +20,10 @@ record SoFar (b : List ℕ) (count : ℕ) (sets links heads : List ℕ) (j i : �
   no_copy : NoCopyYet b count j i
   taken : TakenIn b j sets links heads
 
-abbrev invariant_loop : tie.invariant_loop
+abbrev invariant_loop : tie.invariant-loop-j
 invariant_loop file n count sets₀ links₀ heads₀ j₀ i₀ sets links heads j i = SoFar file count sets links heads j i
 
-abbrev decreases_loop : tie.decreases_loop
+abbrev decreases_loop : tie.decreases-loop-j
 decreases_loop file n count sets₀ links₀ heads₀ j₀ i₀ sets links heads j i = count - j
 
 -- whether the clause at hand is a copy
@@ -34,66 +34,66 @@ by_sets {b} {j = j} {i = i} o k here =
     ap (member (mask (clause_at b i))) k.taken.sets_are
     ∙ ordered_by_sets (clause_at b i) (clauses_from b j 0) (rw k.no_copy.starts (in_order o j here)) (first_in_order o j (omega arith))
 
-loop_holds : tie.Need-loop-init invariant_loop decreases_loop
+loop_holds : tie.Need-loop-j-init invariant_loop decreases_loop
 loop_holds c = record { no_copy = no_copy_yet _ _; taken = none_taken _ }
 
 -- a turn of the loop
-module _ (c : tie.In-loop invariant_loop decreases_loop) where
-  ends : after_clause c.before.before.before.args.file.now c.before.loop.i ≤ word_count c.before.before.before.args.file.now
-  ends = stands _ _ c.before.loop.invariant.no_copy c.loop-test.true c.before.before.before.requires.within
+module _ (c : tie.In-loop-j invariant_loop decreases_loop) where
+  ends : after_clause c.before.before.before.args.file.now c.before.loop-j.i ≤ word_count c.before.before.before.args.file.now
+  ends = stands _ _ c.before.loop-j.invariant.no_copy c.loop-j-test.true c.before.before.before.requires.within
 
-  few : c.before.loop.j < max_clauses
-  few = omega (arith, c.loop-test.true, c.before.before.before.requires.few_clauses)
+  few : c.before.loop-j.j < max_clauses
+  few = omega (arith, c.loop-j-test.true, c.before.before.before.requires.few_clauses)
 
-word_requires : tie.Need-word-requires invariant_loop decreases_loop
+word_requires : tie.Need-word-k-requires invariant_loop decreases_loop
 word_requires c κs = omega (arith, ends c)
 
-clause_mask_requires : tie.Need-clause-mask-requires invariant_loop decreases_loop
+clause_mask_requires : tie.Need-clause_mask-set-requires invariant_loop decreases_loop
 clause_mask_requires c κs =
     let turn = c.before in
     let o = turn.before.before.before.requires in
-    let w = c.word.ensures.0 in
-    (omega (arith, ends turn, w), (o.few_variables, rw (w, turn.before.loop.invariant.no_copy.starts) (in_range o _ turn.loop-test.true)))
+    let w = c.word-k.ensures.0 in
+    (omega (arith, ends turn, w), (o.few_variables, rw (w, turn.before.loop-j.invariant.no_copy.starts) (in_range o _ turn.loop-j-test.true)))
 
-take_in_requires : tie.Need-take-in-requires invariant_loop decreases_loop
-take_in_requires c κs = let turn = c.before.before.before.before.before in (few turn, turn.before.loop.invariant.taken.chained)
+take_in_requires : tie.Need-take_in-requires invariant_loop decreases_loop
+take_in_requires c κs = let turn = c.before.before.before.before.before in (few turn, turn.before.loop-j.invariant.taken.chained)
 
 -- the set of the clause at hand is taken in, which tells whether it is a copy
-module _ (c : tie.After-take-in invariant_loop decreases_loop) where
-  abbrev turn : tie.In-loop invariant_loop decreases_loop
+module _ (c : tie.After-take_in invariant_loop decreases_loop) where
+  abbrev turn : tie.In-loop-j invariant_loop decreases_loop
   turn = c.before.before.before.before.before.before
 
   abbrev b : List ℕ
   b = turn.before.before.before.args.file.now
 
-  word_is : c.before.before.before.before.before.word.result ≡ word b turn.before.loop.i
-  word_is = c.before.before.before.before.before.word.ensures.0
+  word_is : c.before.before.before.before.before.word-k.result ≡ word b turn.before.loop-j.i
+  word_is = c.before.before.before.before.before.word-k.ensures.0
 
-  set_is : c.before.before.before.before.clause-mask.result ≡ mask (clause_at b turn.before.loop.i)
-  set_is = c.before.before.before.before.clause-mask.ensures.0 ∙ ap (λ k. mask (words b (turn.before.loop.i + 1) k)) word_is
+  set_is : c.before.before.before.before.clause_mask-set.result ≡ mask (clause_at b turn.before.loop-j.i)
+  set_is = c.before.before.before.before.clause_mask-set.ensures.0 ∙ ap (λ k. mask (words b (turn.before.loop-j.i + 1) k)) word_is
 
-  is_copy : c.take_in.result ≡ some_of (λ d. equal d (clause_at b turn.before.loop.i)) (clauses_from b turn.before.loop.j 0)
+  is_copy : c.take_in.result ≡ some_of (λ d. equal d (clause_at b turn.before.loop-j.i)) (clauses_from b turn.before.loop-j.j 0)
   is_copy =
       c.take_in.ensures.0
-      ∙ ap (λ s. member s (take turn.before.loop.j turn.before.loop.sets)) set_is
-      ∙ by_sets turn.before.before.before.pre turn.before.loop.inv turn.loop-test.taken
+      ∙ ap (λ s. member s (take turn.before.loop-j.j turn.before.loop-j.sets)) set_is
+      ∙ by_sets turn.before.before.before.requires turn.before.loop-j.invariant turn.loop-j-test.true
 
-returns : tie.Need-returns invariant_loop decreases_loop
+returns : tie.Need-returns-then-take_in invariant_loop decreases_loop
 returns c =
     let t = turn c.before in
-    (sym (copy_found _ _ t.before.loop.inv.no_copy t.loop-test.taken (sym (is_copy c.before) ∙ c.if1.true)), refl)
+    (sym (copy_found _ _ t.before.loop-j.invariant.no_copy t.loop-j-test.true (sym (is_copy c.before) ∙ c.if-take_in.true)), refl)
 
-loop_again : tie.Need-loop-preserved invariant_loop decreases_loop
+loop_again : tie.Need-loop-j-preserved invariant_loop decreases_loop
 loop_again c =
     let t = turn c.before in
     let call = c.before.take_in.ensures.1 in
     record {
-      no_copy = rw (word_is c.before) (passed_on _ _ t.before.loop.inv.no_copy t.loop-test.taken (sym (is_copy c.before) ∙ c.if1.false));
-      taken = one_taken t.before.loop.inv.taken (few t) _ t.before.loop.inv.no_copy.starts (call.0 ∙ ap (set t.before.loop.sets t.before.loop.j) (set_is c.before)) call.1;
+      no_copy = rw (word_is c.before) (passed_on _ _ t.before.loop-j.invariant.no_copy t.loop-j-test.true (sym (is_copy c.before) ∙ c.if-take_in.false));
+      taken = one_taken t.before.loop-j.invariant.taken (few t) _ t.before.loop-j.invariant.no_copy.starts (call.0 ∙ ap (set t.before.loop-j.sets t.before.loop-j.j) (set_is c.before)) call.1;
     }
 
-returns_2 : tie.Need-returns-2 invariant_loop decreases_loop
-returns_2 c = (sym (none_left _ _ c.before.loop.invariant.no_copy c.loop-test.false), refl)
+returns_2 : tie.Need-returns invariant_loop decreases_loop
+returns_2 c = (sym (none_left _ _ c.before.loop-j.invariant.no_copy c.loop-j-test.false), refl)
 
 pub copy_by_chains_spec : {M : Type 1} → statement M
 copy_by_chains_spec =
@@ -110,6 +110,6 @@ copy_by_chains_spec =
     (λ c. record { fits = omega (arith, ends (turn c.before)) })
     (λ c. record { fits = omega (arith, ends (turn c.before), word_is c.before) })
     (λ c. record { fits = omega (arith, few (turn c.before)) })
-    (λ c. omega (arith, (turn c.before).loop-test.taken))
+    (λ c. omega (arith, (turn c.before).loop-j-test.true))
     loop_again
     returns_2)

@@ -13,7 +13,7 @@ mixed_fits s h = omega arith
 parts_fit : (x : ℕ) → x < 2 ^ 64 → x / 1048576 + x / 1099511627776 < 2 ^ 64
 parts_fit x h = omega arith
 
-add_result : tie.Need-overflow-add-result
+add_result : tie.Need-overflow_add-result
 add_result c = record { fits = parts_fit (mixed c.args.set) (mixed_fits c.args.set (search rules)) }
 
 returns : tie.Need-returns
