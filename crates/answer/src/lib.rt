@@ -2,7 +2,7 @@
 #![tactic(auto)]
 
 // Why a file, a limit or a level is refused.
-#[derive(Drop)]
+#[derive(Clone, Copy)]
 pub enum Refusal {
     // The refusal's number alone.
     Alone(u32),
