@@ -8,10 +8,10 @@ use mathlib.Core.List.{List, [], ◌∷◌}
 use mathlib.Core.Logic.{◌≢◌}
 use mathlib.Core.Option.{Option, none, some}
 use lib.ListN.{length, take, drop, length-drop}
-use lib.Seq.{take_all, drop-drop}
+use lib.Seq.{take_all, drop-drop, slice}
 use lib.Dec.{ltb, eqb, eqb-zero-suc, eqb-suc-suc}
 use borrow.Author.Tests.{ltb-true, ltb-false, eqb-true, eqb-false, eq-eqb, ne_eqb}
-use Rattle.bytes.specs.Bytes.{index_of, slice}
+use Rattle.job_list.specs.Find.{index_of}
 use Rattle.formula.specs.Formula.{some_of, all_of, member}
 use Rattle.job_list.specs.JobList.{in_front, split, parts, is_name, is_digit, limit_of, Job, with_limits, job_by, job_of}
 use Rattle.job_list.proofs.LimitLaws.{below_digits, not_digits}

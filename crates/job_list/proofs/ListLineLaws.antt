@@ -13,7 +13,7 @@ use mathlib.Core.Option.{Option, none, some, none-ne-some, some-injective}
 use lib.ListN.{length}
 use lib.Dec.{leb, eqb}
 use borrow.Author.Tests.{ltb-true, leb-true, eqb-true, eqb-false, lt-ltb, eq-eqb, ne_eqb, not-true}
-use Rattle.bytes.specs.Bytes.{index_of}
+use Rattle.job_list.specs.Find.{index_of}
 use Rattle.formula.specs.Formula.{◌∈◌, some_of, all_of, member, is_empty}
 use Rattle.formula.proofs.Membership.{and_iff, all_of_iff, not_member_iff}
 use Rattle.buffer.specs.Text.{ascii}

@@ -6,10 +6,10 @@ use mathlib.Core.Path.{◌≡◌, refl, sym, ap, ◌∙◌}
 use mathlib.Core.Bool.{Bool, true, false}
 use mathlib.Core.List.{List, [], ◌∷◌}
 use lib.ListN.{length, take, drop, length-drop, drop_of_length-le}
-use lib.Seq.{length-take-le, take-length, take_all, take-nil, drop-drop}
+use lib.Seq.{length-take-le, take-length, take_all, take-nil, drop-drop, slice}
 use lib.Dec.{ltb, eqb}
 use borrow.Author.Tests.{ltb-true, ltb-false}
-use Rattle.bytes.specs.Bytes.{index_after, index_of, slice}
+use Rattle.job_list.specs.Find.{index_after, index_of}
 use Rattle.job_list.specs.JobList.{in_front, split, list_lines, first_or_empty, list_line_at}
 
 pub index_nil : (c : ℕ) → index_of c [] ≡ 0
@@ -86,7 +86,6 @@ split_last c x xs = split_unclosed c [] x xs (λ b. refl)
 
 -- what `find` says of a whole list, from an index on
 pub found : (c at : ℕ) (xs : List ℕ) (r : ℕ) → r ≡ at + index_of c (slice at (length xs) xs) → r ≡ at + index_of c (drop at xs)
-unfolding slice
 found c at xs r e = e ∙ ap (λ ys. at + index_of c (drop at ys)) (take-length xs)
 
 -- the first line ends at the first line feed, or at the end

@@ -1,11 +1,12 @@
 // The job list: its lines, and the file name and the two limits that a line gives.
 #![tactic(auto)]
 
-ghost use Rattle.std.specs.Prelude.{◌≡◌, ◌≤◌, length};
+ghost use Rattle.std.specs.Prelude.{◌≡◌, ◌+◌, ◌≤◌, length};
+ghost use Rattle.std.proofs.Math.Seq.{slice};
+ghost use Rattle.job_list.specs.Find.{index_of};
 ghost use Rattle.job_list.specs.JobList.{max_list_bytes, list_lines, list_line_at, limit_of, is_name, job_of, list_file, limiting, parsing, name_within, listing};
 
 use answer::Refusal;
-use bytes::scan::find;
 
 // The longest list, in bytes and in lines; specs/JobList.antt has the same.
 pub const MAX_LIST_BYTES: usize = 65536;
@@ -41,6 +42,21 @@ pub enum Listing {
     Refused(Refusal),
     // The number of its lines.
     Lines(usize),
+}
+
+// The index of the first `byte` from `from` on and before `to`; `to` where there is none.
+fn find(list: &[u8], from: usize, to: usize, byte: u8) -> usize
+    requires from_to { from ≤ to }
+    requires to_length { to ≤ length list.now }
+    ensures value { result ≡ from + index_of byte (slice from to list.now) }
+    ensures bound { result ≤ to }
+{
+    for at in from..to {
+        if list[at] == byte {
+            return at;
+        }
+    }
+    to
 }
 
 // The line that begins at index `at`, without the byte that closes it; empty where the list ends before.

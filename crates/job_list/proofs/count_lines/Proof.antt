@@ -4,17 +4,18 @@ use native.Mathlib.Omega.{arith}
 use mathlib.Core.Path.{◌≡◌, refl, ap}
 use mathlib.Core.List.{List}
 use lib.ListN.{length, drop}
-use Rattle.bytes.specs.Bytes.{index_of, slice}
+use lib.Seq.{slice}
+use Rattle.job_list.specs.Find.{index_of}
 use Rattle.job_list.specs.JobList.{list_lines}
 use Rattle.job_list.proofs.SplitLaws.{lines_next, lines_over}
 use Rattle.job_list.proofs.count_lines.Statement.{statement}
 use Rattle.job_list.proofs.count_lines.Tie as tie
 
-abbrev invariant_loop : tie.invariant_loop
+abbrev invariant_loop : tie.invariant-loop-at
 invariant_loop list end count₀ at₀ count at =
     (count + length (list_lines (drop at list)) ≡ length (list_lines list)) × ((count ≤ at) × (length list ≤ 65536))
 
-abbrev decreases_loop : tie.decreases_loop
+abbrev decreases_loop : tie.decreases-loop-at
 decreases_loop list end count₀ at₀ count at = end + 1 - at
 
 -- one line more is counted, or none is left
@@ -31,28 +32,28 @@ all_counted xs at k h sum =
     let none : length (list_lines (drop at xs)) ≡ 0 = ap length (lines_over xs at h) in
     omega (sum, none, arith)
 
-loop_holds : tie.Need-loop-init invariant_loop decreases_loop
+loop_holds : tie.Need-loop-at-init invariant_loop decreases_loop
 loop_holds c = (omega arith, (omega arith, c.before.requires))
 
-find_requires : tie.Need-find-requires invariant_loop decreases_loop
-find_requires c κs = (omega (c.loop-test.true, arith), omega arith)
+find_requires : tie.Need-find-at-requires invariant_loop decreases_loop
+find_requires c κs = (omega (c.loop-at-test.true, arith), omega arith)
 
-add_at : tie.Need-overflow-add-at invariant_loop decreases_loop
-add_at c = record { fits = omega (c.find.ensures.1, c.before.before.loop.invariant.1.1, arith) }
+add_at : tie.Need-overflow_add-at invariant_loop decreases_loop
+add_at c = record { fits = omega (c.find-at.ensures.1, c.before.before.loop-at.invariant.1.1, arith) }
 
-add_count : tie.Need-overflow-add-count invariant_loop decreases_loop
-add_count c = record { fits = omega (c.before.before.loop.invariant.1, c.before.loop-test.true, arith) }
+add_count : tie.Need-overflow_add-count invariant_loop decreases_loop
+add_count c = record { fits = omega (c.before.before.loop-at.invariant.1, c.before.loop-at-test.true, arith) }
 
-loop_less : tie.Need-loop-smaller invariant_loop decreases_loop
-loop_less c = omega (c.find.ensures.0, c.before.loop-test.true, arith)
+loop_less : tie.Need-loop-at-smaller invariant_loop decreases_loop
+loop_less c = omega (c.find-at.ensures.0, c.before.loop-at-test.true, arith)
 
-loop_again : tie.Need-loop-preserved invariant_loop decreases_loop
+loop_again : tie.Need-loop-at-preserved invariant_loop decreases_loop
 loop_again c =
-    let (sum, (less, short)) = c.before.before.loop.invariant in
-    (counted _ _ _ _ c.before.loop-test.true c.find.ensures.0 sum, (omega (less, c.find.ensures.0, arith), short))
+    let (sum, (less, short)) = c.before.before.loop-at.invariant in
+    (counted _ _ _ _ c.before.loop-at-test.true c.find-at.ensures.0 sum, (omega (less, c.find-at.ensures.0, arith), short))
 
 returns : tie.Need-returns invariant_loop decreases_loop
-returns c = (all_counted _ _ _ c.loop-test.false c.before.loop.invariant.0, refl)
+returns c = (all_counted _ _ _ c.loop-at-test.false c.before.loop-at.invariant.0, refl)
 
 pub count_lines_spec : {M : Type 1} → statement M
 count_lines_spec =

@@ -10,10 +10,10 @@ use borrow.Author.Rules.{rules}
 use Rattle.job_list.proofs.limit.Statement.{statement}
 use Rattle.job_list.proofs.limit.Tie as tie
 
-abbrev invariant_loop : tie.invariant_loop
+abbrev invariant_loop : tie.invariant-loop-i
 invariant_loop part value₀ i₀ value i = ReadTo part i value
 
-abbrev decreases_loop : tie.decreases_loop
+abbrev decreases_loop : tie.decreases-loop-i
 decreases_loop part value₀ i₀ value i = length part - i
 
 -- the test before a digit joins the number: the largest is 2^64 − 1
@@ -27,60 +27,60 @@ module _ {d x : ℕ} (h : d ≤ 57) where
   first : x ≤ (18446744073709551615 - (d - 48)) / 10 → 10 * x < 2 ^ 64
   first e = omega (under e, arith)
 
-returns : tie.Need-returns invariant_loop decreases_loop
-returns c = (empty_limit _ c.if1.true, refl)
+returns : tie.Need-returns-then-part-eq0 invariant_loop decreases_loop
+returns c = (empty_limit _ c.if-part-eq0.true, refl)
 
-loop_holds : tie.Need-loop-init invariant_loop decreases_loop
-loop_holds c = read_none _ c.if1.false
+loop_holds : tie.Need-loop-i-init invariant_loop decreases_loop
+loop_holds c = read_none _ c.if-part-eq0.false
 
-shared_slice_read_byte : tie.Need-shared-slice-read-byte invariant_loop decreases_loop
-shared_slice_read_byte c = c.before.loop-test.true
+shared_slice_read_byte : tie.Need-bounds-part-i invariant_loop decreases_loop
+shared_slice_read_byte c = c.before.loop-i-test.true
 
-returns_2 : tie.Need-returns-2 invariant_loop decreases_loop
+returns_2 : tie.Need-returns-then-byte-lt48 invariant_loop decreases_loop
 returns_2 c =
     let p = c.before.before in
-    (no_digit p.before.loop.invariant p.loop-test.true (below_digits _ c.if2.true), refl)
+    (no_digit p.before.loop-i.invariant p.loop-i-test.true (below_digits _ c.if-byte-lt48.true), refl)
 
-returns_3 : tie.Need-returns-3 invariant_loop decreases_loop
+returns_3 : tie.Need-returns-then-byte-gt57 invariant_loop decreases_loop
 returns_3 c =
     let p = c.before.before.before in
-    (no_digit p.before.loop.invariant p.loop-test.true (past_digits _ c.if3.true), refl)
+    (no_digit p.before.loop-i.invariant p.loop-i-test.true (past_digits _ c.if-byte-gt57.true), refl)
 
-cast_digit : tie.Need-overflow-cast-digit invariant_loop decreases_loop
-cast_digit c = record { fits = omega (c.if3.false, arith) }
+cast_digit : tie.Need-overflow_cast-digit invariant_loop decreases_loop
+cast_digit c = record { fits = omega (c.if-byte-gt57.false, arith) }
 
-sub_if4 : tie.Need-overflow-sub-if4 invariant_loop decreases_loop
-sub_if4 c = omega (c.if3.false, arith)
+sub_if4 : tie.Need-overflow_sub-digit-in-loop-i invariant_loop decreases_loop
+sub_if4 c = omega (c.if-byte-gt57.false, arith)
 
-returns_4 : tie.Need-returns-4 invariant_loop decreases_loop
+returns_4 : tie.Need-returns-then-digit-value invariant_loop decreases_loop
 returns_4 c =
     let p = c.before.before.before.before in
-    (too_large p.before.loop.invariant p.loop-test.true (over c.before.if3.false c.if4.true), refl)
+    (too_large p.before.loop-i.invariant p.loop-i-test.true (over c.before.if-byte-gt57.false c.if-digit-value.true), refl)
 
-mul_value : tie.Need-overflow-mul-value invariant_loop decreases_loop
-mul_value c = record { fits = first c.before.if3.false c.if4.false }
+mul_value : tie.Need-overflow_mul-value invariant_loop decreases_loop
+mul_value c = record { fits = first c.before.if-byte-gt57.false c.if-digit-value.false }
 
-add_value : tie.Need-overflow-add-value invariant_loop decreases_loop
-add_value c = record { fits = under c.before.if3.false c.if4.false }
+add_value : tie.Need-overflow_add-value invariant_loop decreases_loop
+add_value c = record { fits = under c.before.if-byte-gt57.false c.if-digit-value.false }
 
-add_i : tie.Need-overflow-add-i invariant_loop decreases_loop
+add_i : tie.Need-overflow_add-i invariant_loop decreases_loop
 add_i c = search rules
 
-loop_less : tie.Need-loop-smaller invariant_loop decreases_loop
-loop_less c = omega (c.before.before.before.before.loop-test.true, arith)
+loop_less : tie.Need-loop-i-smaller invariant_loop decreases_loop
+loop_less c = omega (c.before.before.before.before.loop-i-test.true, arith)
 
-loop_again : tie.Need-loop-preserved invariant_loop decreases_loop
+loop_again : tie.Need-loop-i-preserved invariant_loop decreases_loop
 loop_again c =
     let p = c.before.before.before.before in
     simp add-one
     (read_digit
-    p.before.loop.invariant
-    p.loop-test.true
-    (digit _ c.before.before.if2.false c.before.if3.false)
-    (under c.before.if3.false c.if4.false))
+    p.before.loop-i.invariant
+    p.loop-i-test.true
+    (digit _ c.before.before.if-byte-lt48.false c.before.if-byte-gt57.false)
+    (under c.before.if-byte-gt57.false c.if-digit-value.false))
 
-returns_5 : tie.Need-returns-5 invariant_loop decreases_loop
-returns_5 c = (read_all c.before.loop.invariant c.loop-test.false, refl)
+returns_5 : tie.Need-returns invariant_loop decreases_loop
+returns_5 c = (read_all c.before.loop-i.invariant c.loop-i-test.false, refl)
 
 pub limit_spec : {M : Type 1} → statement M
 limit_spec =

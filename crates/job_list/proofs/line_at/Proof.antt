@@ -6,11 +6,11 @@ use borrow.Author.Rules.{rules}
 use Rattle.job_list.proofs.line_at.Statement.{statement}
 use Rattle.job_list.proofs.line_at.Tie as tie
 
-returns : tie.Need-returns
-returns c = (line_over _ _ (omega (c.before.if1.true, arith)), refl)
+returns : tie.Need-returns-then-end-at
+returns c = (line_over _ _ (omega (c.if-end-at.true, arith)), refl)
 
-returns_2 : tie.Need-returns-2
-returns_2 c = (line_found _ _ _ c.before.find.ensures.0, refl)
+returns_2 : tie.Need-returns
+returns_2 c = (line_found _ _ _ c.before.find-to.ensures.0, refl)
 
 pub line_at_spec : {M : Type 1} → statement M
 line_at_spec =

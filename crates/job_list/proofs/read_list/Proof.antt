@@ -24,14 +24,14 @@ module _ (b : List ℕ) where
   unfolding list_file
   short h e m = sym (rw (le-ltb _ _ h, sym e, le-ltb _ _ m))
 
-returns : tie.Need-returns
-returns c = (by_bytes _ c.if1.true, refl)
+returns : tie.Need-returns-then-list-gt-MAX_LIST_BYTES
+returns c = (by_bytes _ c.if-list-gt-MAX_LIST_BYTES.true, refl)
 
-returns_2 : tie.Need-returns-2
-returns_2 c = (by_lines _ c.before.before.if1.false c.before.count-lines.ensures.0 c.if2.true, refl)
+returns_2 : tie.Need-returns-then-count-gt-MAX_LIST_LINES
+returns_2 c = (by_lines _ c.before.before.if-list-gt-MAX_LIST_BYTES.false c.before.count_lines-count.ensures.0 c.if-count-gt-MAX_LIST_LINES.true, refl)
 
-returns_3 : tie.Need-returns-3
-returns_3 c = (short _ c.before.before.if1.false c.before.count-lines.ensures.0 c.if2.false, refl)
+returns_3 : tie.Need-returns
+returns_3 c = (short _ c.before.before.if-list-gt-MAX_LIST_BYTES.false c.before.count_lines-count.ensures.0 c.if-count-gt-MAX_LIST_LINES.false, refl)
 
 pub read_list_spec : {M : Type 1} → statement M
 read_list_spec = tie.close (tie.spec returns (λ c κs. search rules) returns_2 returns_3)
