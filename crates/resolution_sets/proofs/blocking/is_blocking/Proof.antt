@@ -49,13 +49,13 @@ over : {table : List ℕ} {count c passed : ℕ} → Part table count c passed �
 over {table} p none φ x are size e =
     sym ((blocking_iff φ x table are (rw e at p.small)).1 (λ h k. p.each x e h (omega arith) (omega arith)))
 
-abbrev invariant_loop : tie.invariant_loop
+abbrev invariant_loop : tie.invariant-loop-passed
 invariant_loop table clauses c passed₀ passed = Part table clauses c passed
 
-abbrev decreases_loop : tie.decreases_loop
+abbrev decreases_loop : tie.decreases-loop-passed
 decreases_loop table clauses c passed₀ passed = clauses - passed
 
-loop_holds : tie.Need-loop-init invariant_loop decreases_loop
+loop_holds : tie.Need-loop-passed-init invariant_loop decreases_loop
 loop_holds c = record { aligned = refl; small = c.ranges.c.fits; each = λ x e h k l. absurd (omega arith) }
 
 -- `seen` has those past the last clause
@@ -64,45 +64,45 @@ past_has seen count passed e h k = ap (λ s. has s h) e ∙ from_has (count - pa
 
 -- where more than 192 clauses are left
 four_full :
-    (c : tie.After-opposed-in-four invariant_loop decreases_loop) → let l = c.before.before.before.before in
+    (c : tie.After-opposed_in_four invariant_loop decreases_loop) → let l = c.before.before.before.before in
     (x : List ℕ) → l.before.args.c ≡ mask x
-    → (c.opposed-in-four.result ≡ 2 ^ 64 - 1) ↔ AllOpposed l.before.args.table.now x l.before.args.clauses l.loop.passed 256
+    → (c.opposed_in_four.result ≡ 2 ^ 64 - 1) ↔ AllOpposed l.before.args.table.now x l.before.args.clauses l.loop-passed.passed 256
 four_full c x e =
     let l = c.before.before.before.before in
     let table = l.before.args.table.now in
     let count = l.before.args.clauses in
-    let passed = l.loop.passed in
+    let passed = l.loop-passed.passed in
     let left : count - passed - 192 ≡ count - (passed + 192) = omega arith in
-    four_iff table x count passed c.opposed-in-four.result l.loop.invariant.aligned c.opposed-in-four.type-inv c.before.before.if1.true
-    (λ h k. c.opposed-in-four.ensures x e h
+    four_iff table x count passed c.opposed_in_four.result l.loop-passed.invariant.aligned c.opposed_in_four.type_inv c.before.before.if-passed-clauses.true
+    (λ h k. c.opposed_in_four.ensures x e h
     ∙ ap (λ t. (some_of (opposes table passed h) x && some_of (opposes table (passed + 64) h) x)
     && (some_of (opposes table (passed + 128) h) x && (t || some_of (opposes table (passed + 192) h) x)))
     (past_has _ count (passed + 192) (c.before.from.ensures ∙ ap from left) h k))
 
-returns : tie.Need-returns invariant_loop decreases_loop
-returns c = (refused c.before.before.before.before.before.loop.invariant 256 refl (four_full c.before) c.if2.true, refl)
+returns : tie.Need-returns-then-opposed_in_four invariant_loop decreases_loop
+returns c = (refused c.before.before.before.before.before.loop-passed.invariant 256 refl (four_full c.before) c.if-opposed_in_four.true, refl)
 
-loop_again : tie.Need-loop-preserved invariant_loop decreases_loop
-loop_again c = more c.before.before.before.before.before.loop.invariant 256 refl (four_full c.before) c.if2.false
+loop_again : tie.Need-loop-passed-preserved-then-passed-clauses invariant_loop decreases_loop
+loop_again c = more c.before.before.before.before.before.loop-passed.invariant 256 refl (four_full c.before) c.if-opposed_in_four.false
 
 -- where fewer are left
 block_full :
     (c : tie.After-opposed invariant_loop decreases_loop) → let l = c.before.before.before.before in
     (x : List ℕ) → l.before.args.c ≡ mask x
-    → (c.opposed.result ≡ 2 ^ 64 - 1) ↔ AllOpposed l.before.args.table.now x l.before.args.clauses l.loop.passed 64
+    → (c.opposed.result ≡ 2 ^ 64 - 1) ↔ AllOpposed l.before.args.table.now x l.before.args.clauses l.loop-passed.passed 64
 block_full c x e =
     let l = c.before.before.before.before in
     let table = l.before.args.table.now in
     let count = l.before.args.clauses in
-    let passed = l.loop.passed in
-    block_iff table x count passed c.opposed.result l.loop.invariant.aligned c.opposed.type-inv
-    (λ h k. c.opposed.ensures x e h ∙ ap (◌|| some_of (opposes table passed h) x) (past_has _ count passed c.before.from2.ensures h k))
+    let passed = l.loop-passed.passed in
+    block_iff table x count passed c.opposed.result l.loop-passed.invariant.aligned c.opposed.type_inv
+    (λ h k. c.opposed.ensures x e h ∙ ap (◌|| some_of (opposes table passed h) x) (past_has _ count passed c.before.from-else-passed-clauses.ensures h k))
 
-returns_2 : tie.Need-returns-2 invariant_loop decreases_loop
-returns_2 c = (refused c.before.before.before.before.before.loop.invariant 64 refl (block_full c.before) c.if3.true, refl)
+returns_2 : tie.Need-returns-then-opposed invariant_loop decreases_loop
+returns_2 c = (refused c.before.before.before.before.before.loop-passed.invariant 64 refl (block_full c.before) c.if-opposed.true, refl)
 
-loop_again_2 : tie.Need-loop-preserved-2 invariant_loop decreases_loop
-loop_again_2 c = more c.before.before.before.before.before.loop.invariant 64 refl (block_full c.before) c.if3.false
+loop_again_2 : tie.Need-loop-passed-preserved invariant_loop decreases_loop
+loop_again_2 c = more c.before.before.before.before.before.loop-passed.invariant 64 refl (block_full c.before) c.if-opposed.false
 
 pub is_blocking_spec : {M : Type 1} → statement M
 is_blocking_spec =
@@ -115,16 +115,16 @@ is_blocking_spec =
     (λ c. omega arith)
     (λ c. omega arith)
     (λ c κs. tt)
-    (λ c κs. omega (arith, c.before.before.before.loop.invariant.aligned))
+    (λ c κs. omega (arith, c.before.before.before.loop-passed.invariant.aligned))
     returns
     (λ c. omega arith)
     (λ c. omega arith)
     loop_again
     (λ c. omega arith)
     (λ c κs. tt)
-    (λ c κs. omega (arith, c.before.before.before.loop.invariant.aligned))
+    (λ c κs. omega (arith, c.before.before.before.loop-passed.invariant.aligned))
     returns_2
     (λ c. omega arith)
     (λ c. omega arith)
     loop_again_2
-    (λ c. (over c.before.loop.invariant c.loop-test.false, refl)))
+    (λ c. (over c.before.loop-passed.invariant c.loop-passed-test.false, refl)))

@@ -9,36 +9,36 @@ use Rattle.resolution_sets.proofs.BlockingLaws.{Joining, joining_none, next_smal
 use Rattle.resolution_sets.proofs.blocking.opposed.Statement.{statement}
 use Rattle.resolution_sets.proofs.blocking.opposed.Tie as tie
 
-abbrev invariant_loop : tie.invariant_loop
+abbrev invariant_loop : tie.invariant-loop-left
 invariant_loop table words c seen set₀ left₀ set left = Joining table words c seen set left
 
-abbrev decreases_loop : tie.decreases_loop
+abbrev decreases_loop : tie.decreases-loop-left
 decreases_loop table words c seen set₀ left₀ set left = left
 
-loop_holds : tie.Need-loop-init invariant_loop decreases_loop
+loop_holds : tie.Need-loop-left-init invariant_loop decreases_loop
 loop_holds c = joining_none _ _ _ _ c.ranges.c.fits
 
-cast_l : tie.Need-overflow-cast-l invariant_loop decreases_loop
-cast_l c = record { fits = omega (arith, trailing_le 64 c.before.loop.left) }
+cast_l : tie.Need-overflow_cast-l invariant_loop decreases_loop
+cast_l c = record { fits = omega (arith, trailing_le 64 c.before.loop-left.left) }
 
 -- the opposite of the literal at hand has a word in the table
 in_table : (c : tie.After-opposite invariant_loop decreases_loop) → c.opposite.result < 64
-in_table c = rw c.opposite.ensures (next_small c.before.before.loop.invariant (omega arith))
+in_table c = rw c.opposite.ensures (next_small c.before.before.loop-left.invariant (omega arith))
 
-add_set : tie.Need-overflow-add-set invariant_loop decreases_loop
+add_set : tie.Need-overflow_add-set invariant_loop decreases_loop
 add_set c = omega (arith, in_table c)
 
-mul_set : tie.Need-overflow-mul-set invariant_loop decreases_loop
+mul_set : tie.Need-offset_bounds-table-words invariant_loop decreases_loop
 mul_set c = omega (arith, in_table c)
 
-element_copy_out_set : tie.Need-element-copy-out-set invariant_loop decreases_loop
-element_copy_out_set c = omega (arith, in_table c)
+element_copy_out_set : tie.Need-bounds-table-words invariant_loop decreases_loop
+element_copy_out_set c = omega (arith, in_table c.before)
 
-loop_less : tie.Need-loop-smaller invariant_loop decreases_loop
-loop_less c = let left = c.before.before.before.loop.left in omega (arith, and_le_r left (left - 1))
+loop_less : tie.Need-loop-left-smaller invariant_loop decreases_loop
+loop_less c = let left = c.before.before.before.before.loop-left.left in omega (arith, and_le_r left (left - 1))
 
-loop_again : tie.Need-loop-preserved invariant_loop decreases_loop
-loop_again c = rw c.before.opposite.ensures (joining_more c.before.before.before.loop.invariant (omega arith))
+loop_again : tie.Need-loop-left-preserved invariant_loop decreases_loop
+loop_again c = rw c.before.before.opposite.ensures (joining_more c.before.before.before.before.loop-left.invariant (omega arith))
 
 pub opposed_spec : {M : Type 1} → statement M
 opposed_spec =
@@ -55,4 +55,4 @@ opposed_spec =
     (λ c. omega arith)
     loop_less
     loop_again
-    (λ c. joined_all c.before.loop.invariant c.loop-test.false))
+    (λ c. joined_all c.before.loop-left.invariant c.loop-left-test.false))

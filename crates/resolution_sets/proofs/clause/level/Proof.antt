@@ -5,10 +5,10 @@ use Rattle.resolution_sets.proofs.SetLaws.{level_is}
 use Rattle.resolution_sets.proofs.clause.level.Statement.{statement}
 use Rattle.resolution_sets.proofs.clause.level.Tie as tie
 
-cast_result : tie.Need-overflow-cast-result
+cast_result : tie.Need-overflow_cast-result
 cast_result c = record { fits = omega (arith, leading_le 64 c.args.c) }
 
-sub_result : tie.Need-overflow-sub-result
+sub_result : tie.Need-overflow_sub-result
 sub_result c = omega (arith, leading_le 64 c.args.c)
 
 pub level_spec : {M : Type 1} → statement M

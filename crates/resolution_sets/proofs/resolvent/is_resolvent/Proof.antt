@@ -12,28 +12,28 @@ use borrow.Author.Rules.{rules}
 use Rattle.resolution_sets.proofs.resolvent.is_resolvent.Statement.{statement}
 use Rattle.resolution_sets.proofs.resolvent.is_resolvent.Tie as tie
 
-returns : tie.Need-returns
+returns : tie.Need-returns-then-s-first-ne2
 returns c =
     let f = c.before.ranges in
-    resolvent_by_sets _ _ _ _ f.s.fits f.t.fits false (λ e. absurd (false≢true e), λ h. absurd (c.if1.true h.0))
+    resolvent_by_sets _ _ _ _ f.s.fits f.t.fits false (λ e. absurd (false≢true e), λ h. absurd (c.if-s-first-ne2.true h.0))
 
-returns_2 : tie.Need-returns-2
+returns_2 : tie.Need-returns-then-t-first-ne1
 returns_2 c =
     let f = c.before.before.ranges in
-    resolvent_by_sets _ _ _ _ f.s.fits f.t.fits false (λ e. absurd (false≢true e), λ h. absurd (c.if2.true h.1.0))
+    resolvent_by_sets _ _ _ _ f.s.fits f.t.fits false (λ e. absurd (false≢true e), λ h. absurd (c.if-t-first-ne1.true h.1.0))
 
 -- the bit of the first literal of v
-bit_is : (c : tie.Else2) → let k = 2 * c.before.before.args.v in 1 * 2 ^ k % 2 ^ 64 ≡ 2 ^ k
+bit_is : (c : tie.Else-t-first-ne1) → let k = 2 * c.before.before.args.v in 1 * 2 ^ k % 2 ^ 64 ≡ 2 ^ k
 bit_is c = shifted_one (2 * c.before.before.args.v) (omega arith)
 
-sub_result : tie.Need-overflow-sub-result
+sub_result : tie.Need-overflow_sub-result
 sub_result c = rw (bit_is c) (omega (arith, pow_pos (2 * c.before.before.args.v)))
 
-returns_3 : tie.Need-returns-3
+returns_3 : tie.Need-returns
 returns_3 c =
     let f = c.before.before.ranges in
     rw (bit_is c)
-    (resolvent_by_sets _ _ _ _ f.s.fits f.t.fits _ (λ e. (c.before.if1.false, (c.if2.false, eqb-true _ _ e)), λ h. eq-eqb _ _ h.1.1))
+    (resolvent_by_sets _ _ _ _ f.s.fits f.t.fits _ (λ e. (c.before.if-s-first-ne2.false, (c.if-t-first-ne1.false, eqb-true _ _ e)), λ h. eq-eqb _ _ h.1.1))
 
 pub is_resolvent_spec : {M : Type 1} → statement M
 is_resolvent_spec =
