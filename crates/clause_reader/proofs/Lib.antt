@@ -1,5 +1,3 @@
--- Laws of the clause reader's definitions, and what its proofs by hand share.
+-- Laws of the clause reader's definitions.
 pub mod CursorLaws
 pub mod ReaderLaws
-pub mod Held
-pub mod Apart

@@ -7,7 +7,7 @@ use rule_file::{Reading, read};
 use words::{part, word};
 
 // The reader's place.
-#[derive(Drop)]
+#[derive(Clone, Copy)]
 pub enum Cursor {
     // The file is refused.
     Refused(Refusal),

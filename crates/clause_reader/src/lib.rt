@@ -9,7 +9,7 @@ ghost use Rattle.clause_reader.specs.Cursor.{start_file, clause_file, advance_fi
 
 use crate::cursor::{Cursor, Step, advanced, clause_at, literals_at, start};
 
-#[derive(Drop)]
+#[derive(Clone, Copy)]
 pub struct ClauseReader<'a> {
     pub rule: &'a [u8],
     pub cursor: Cursor,
