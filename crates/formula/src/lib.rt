@@ -2,7 +2,7 @@
 // is in specs/, and its laws in proofs/.
 #![tactic(auto)]
 
-#[derive(Drop)]
+#[derive(Clone, Copy)]
 pub enum Status {
     // A clause all of whose literals are false, or a formula with such a clause: of a node, document 01's lost.
     Falsified,
