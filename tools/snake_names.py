@@ -3,10 +3,11 @@
 
 usage: python3 tools/snake_names.py [--dry]      at the top of the repository, once, after port.py
 
-In proof files, specifications and contracts a name of several words is written with `_`. Answers and invariants are left. A name that a file takes from
-the library, or from a module that Rattle makes (`Goals`, `Tie`, ..), keeps its spelling, and so does the name of a field
-that Rattle makes. In a comment, a name is turned where it stands in backticks or is a declared name of three or more
-words; in a page, where it stands in backticks. Lists every name that would fall together with another one, and then writes nothing.
+In proof files, specifications and contracts a name of several words is written with `_`. Answers and invariants are
+left. A name that a file takes from the library, or from a module that Rattle makes (`Goals`, `Tie`, ..), keeps its
+spelling, and so does the name of a field that Rattle makes. In a comment, a name is turned where it stands in backticks
+or is a declared name of three or more words; in a page, where it stands in backticks. Lists every name that would fall
+together with another one, and then writes nothing.
 """
 
 import os
@@ -116,7 +117,7 @@ def turn_antt(text, keep, own, crates):
     for line in text.split("\n"):
         m = USE.match(line)
         if m and is_taken_from(m.group(1), crates):
-            lines.append(line)
+            lines.append(re.sub(r"(?<=[^,{] as )[\w'-]+(?=;?$)", lambda n: snake(n.group()), line))
             continue
         code, comment = split_comment(line, "--")
         lines.append(turn_code(code, keep, own) + turn_comment(comment, keep, own))
@@ -129,7 +130,7 @@ def turn_rt(text, keep, own, crates):
     for line in text.split("\n"):
         m = USE.match(line)
         if m and is_taken_from(m.group(1), crates):
-            lines.append(line)
+            lines.append(re.sub(r"(?<=[^,{] as )[\w'-]+(?=;?$)", lambda n: snake(n.group()), line))
             continue
         code, comment = split_comment(line, "//")
         if depth or GHOST.match(code) or CLAUSE.match(code):
