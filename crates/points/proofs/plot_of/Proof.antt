@@ -8,7 +8,7 @@ use Rattle.points.proofs.plot_of.Tie as tie
 
 returns : tie.Need-returns
 unfolding point_for
-returns c = (ap answer c.before.marks_of.ensures, ap answer (ap₂ point_of c.before.marks_of.ensures c.share-of.ensures))
+returns c = (ap answer c.before.marks_of.ensures, ap answer (ap₂ point_of c.before.marks_of.ensures c.share_of.ensures))
 
 pub plot_of_spec : {M : Type 1} → statement M
 plot_of_spec = tie.close (tie.spec (λ c κs. search rules) (λ c κs. search rules) returns)

@@ -5,18 +5,18 @@ use borrow.Author.Rules.{rules}
 use Rattle.points.proofs.read_to_plot.Statement.{statement}
 use Rattle.points.proofs.read_to_plot.Tie as tie
 
-returns : tie.Need-returns
+returns : tie.Need-returns-then-header-gt-MAX_PLOTTED
 returns c =
-    let read = c.before.before.before in
-    (plot_27 _ _ _ read.before.before.read_with_level.ensures.0 _ read.header.given.1 c.if1.true, refl)
+    let read = c.before.before in
+    (plot_27 _ _ _ read.before.read_with_level.ensures.0 _ read.in-Accepted.is c.if-header-gt-MAX_PLOTTED.true, refl)
 
-returns_2 : tie.Need-returns-2
-returns_2 c = (plot_refused _ _ _ c.before.before.before.read_with_level.ensures.0 _ c.before.refusal.given.1, refl)
+returns_2 : tie.Need-returns-in-Refused
+returns_2 c = (plot_refused _ _ _ c.before.read_with_level.ensures.0 _ c.in-Refused.is, refl)
 
-returns_3 : tie.Need-returns-3
+returns_3 : tie.Need-returns-else-header-gt-MAX_PLOTTED
 returns_3 c =
-    let read = c.before.before.before in
-    (plot_holds _ _ _ read.before.before.read_with_level.ensures.0 _ read.header.given.1 c.if1.false, refl)
+    let read = c.before.before in
+    (plot_holds _ _ _ read.before.read_with_level.ensures.0 _ read.in-Accepted.is c.if-header-gt-MAX_PLOTTED.false, refl)
 
 pub read_to_plot_spec : {M : Type 1} → statement M
 read_to_plot_spec =

@@ -7,11 +7,11 @@ use Rattle.points.specs.Points.{share}
 use Rattle.points.proofs.share_of.Statement.{statement}
 use Rattle.points.proofs.share_of.Tie as tie
 
-int_to_float_result : tie.Need-int-to-float-result
+int_to_float_result : tie.Need-int_to_float-result
 unfolding in_float
 int_to_float_result c = le→leb _ _ (le_trans c.before.requires.0 c.before.requires.1)
 
-int_to_float_result_2 : tie.Need-int-to-float-result-2
+int_to_float_result_2 : tie.Need-int_to_float-result-2
 unfolding in_float
 int_to_float_result_2 c = le→leb _ _ c.before.before.requires.1
 
