@@ -7,7 +7,7 @@
 //! The second prints the named tables only: programs, hard, trees, derivations, writing, readers, repairs, points.
 //!
 //! In the first table whole programs are compared: `ssat`, from the directory in SSAT_BIN_DIR or else from
-//! `target/bin`, and the peer's search in a program that prints the same. Each is started anew for each run.
+//! `crates/ssat/out`, and the peer's search in a program that prints the same. Each is started anew for each run.
 //!
 //! In the others the proved solver runs in a thread with a stack of 1 MiB. Both solvers are given the bytes of a
 //! file and read it.
@@ -511,7 +511,7 @@ mod bench {
     /// Ten files for each order of the quantifiers and each number of variables, by whole programs.
     fn programs() {
         let directory = env::var("SSAT_BIN_DIR").unwrap_or_else(|_| {
-            concat!(env!("CARGO_MANIFEST_DIR"), "/../../target/bin").to_string()
+            concat!(env!("CARGO_MANIFEST_DIR"), "/../../crates/ssat/out").to_string()
         });
         let mut ssat = Command::new(format!("{directory}/ssat"));
         let mut peer = Command::new(env::current_exe().unwrap());

@@ -4,10 +4,10 @@
 //! program `ssat_tally`, by its own methods, so that the two can be compared. A set of literals is kept as a 64-bit
 //! mask (bit `l` for literal `l`): with at most 32 variables every literal is under 64.
 //!
-//! The library links `libssat_c.a` and `libplain_c.a` from the directory in SSAT_LIB_DIR (a relative one is taken
-//! from this package), else from `../../target/staticlib`. The tests run `ssat_tally` from the
-//! directory in SSAT_BIN_DIR, else from `../../target/bin`. With `--features no-ffi` the library links
-//! nothing and the tests that need the proved solver are left out.
+//! The library links `libssat_c.a` and `libplain_c.a` from the directory in SSAT_LIB_DIR (a relative one is taken from
+//! this package), else from `out` of their crates, where `rt lib` writes them. The tests run `ssat_tally`, `ssat_repair`
+//! and `run_samples` from the directory in SSAT_BIN_DIR, else from `out` of theirs, where `rt ci` and `rt run` leave
+//! them. With `--features no-ffi` the library links nothing and the tests that need the proved solver are left out.
 //!
 //!     cargo test --release                    all tests
 //!     cargo test --release -- --nocapture     with the counts of what was answered

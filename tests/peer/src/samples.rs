@@ -122,7 +122,25 @@ impl List {
     }
 }
 
+/// All samples.
 pub fn cases() -> Vec<Case> {
+    let (stored, others) = stored_and_others();
+    [stored, others].concat()
+}
+
+/// The samples in the stored files `stdin` and `stdout` of `run_samples`, and the others: marks and points, and what is
+/// asked beside them.
+pub fn stored_and_others() -> (Vec<Case>, Vec<Case>) {
+    // What is stored stays as it is whatever is plotted; the tests run the program on the others.
+    let is_plot = |case: &Case| matches!(case.operation, Operation::Marks(_) | Operation::Point(_));
+    let (plots, stored) = without_points().0.into_iter().partition(is_plot);
+    let mut others = List(plots);
+    points::points(&mut others);
+    (stored, others.0)
+}
+
+/// All but those of `points`.
+fn without_points() -> List {
     let mut list = List::default();
     sample_file(&mut list);
     readings(&mut list);
@@ -148,8 +166,7 @@ pub fn cases() -> Vec<Case> {
     lists::tallies(&mut list);
     small::small_reader(&mut list);
     repair::repairs(&mut list);
-    points::points(&mut list);
-    list.0
+    list
 }
 
 /// A copy of the words with one of them changed.

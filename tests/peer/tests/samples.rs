@@ -1,5 +1,9 @@
 //! The run samples against their stored answers: the peer and the proved solver.
 
+#[cfg(not(feature = "no-ffi"))]
+#[allow(dead_code)]
+mod common;
+
 use peer::samples;
 use std::collections::BTreeSet;
 use std::ffi::OsString;
@@ -17,11 +21,35 @@ fn peer() {
 /// The program `run_samples` is run on these cases, and held to these answers.
 #[test]
 fn program() {
-    let cases = samples::cases();
+    let (cases, _) = samples::stored_and_others();
     let records: Vec<u8> = cases.iter().flat_map(|case| case.record()).collect();
     let lines: String = cases.iter().map(|case| case.line()).collect();
     assert!(records == include_bytes!("../../../crates/run_samples/stdin"), "stdin is not as made");
     assert!(lines == include_str!("../../../crates/run_samples/stdout"), "stdout is not as made");
+}
+
+/// The program `run_samples` on the other cases.
+#[cfg(not(feature = "no-ffi"))]
+#[test]
+fn program_on_others() {
+    use std::io::Write;
+    use std::process::{Command, Stdio};
+    use std::thread;
+    let (_, cases) = samples::stored_and_others();
+    let records: Vec<u8> = cases.iter().flat_map(|case| case.record()).collect();
+    let mut command = Command::new(common::program("run_samples"));
+    let mut child = command.stdin(Stdio::piped()).stdout(Stdio::piped()).stderr(Stdio::piped()).spawn().unwrap();
+    let mut pipe = child.stdin.take().unwrap();
+    let writer = thread::spawn(move || pipe.write_all(&records));
+    let output = child.wait_with_output().unwrap();
+    writer.join().unwrap().unwrap();
+    assert!(output.status.success() && output.stderr.is_empty(), "{output:?}");
+    let text = String::from_utf8(output.stdout).unwrap();
+    let lines: Vec<&str> = text.split_inclusive('\n').collect();
+    for (case, line) in cases.iter().zip(&lines) {
+        assert_eq!(*line, case.line(), "{}", case.name);
+    }
+    assert_eq!(lines.len(), cases.len());
 }
 
 /// The program `ssat_tally` is run on this list and these files, and held to this sheet.

@@ -1,5 +1,5 @@
-//! Writes the run samples as records and as lines to `stdin` and `stdout` of `run_samples`, and the run of `ssat_tally`
-//! to its `stdin`, `stdout` and `data`, all in the folder that is named. From this package's folder:
+//! Writes the stored run samples as records and as lines to `stdin` and `stdout` of `run_samples`, and the run of
+//! `ssat_tally` to its `stdin`, `stdout` and `data`, all in the folder that is named. From this package's folder:
 //!
 //!     cargo run --release --features no-ffi --bin make_samples ../../crates
 //!
@@ -17,17 +17,17 @@ fn main() {
         eprintln!("usage: make_samples FOLDER");
         exit(2);
     };
-    let (mut records, mut lines) = (Vec::new(), String::new());
+    let (stored, others) = samples::stored_and_others();
     let mut wrong = 0;
-    for case in samples::cases() {
+    for case in stored.iter().chain(&others) {
         let answer = case.solve();
         if answer != case.expected {
             eprintln!("{}: peer {answer:?}, by hand {:?}", case.name, case.expected);
             wrong += 1;
         }
-        records.extend(case.record());
-        lines += &case.line();
     }
+    let records: Vec<u8> = stored.iter().flat_map(|case| case.record()).collect();
+    let lines: String = stored.iter().map(|case| case.line()).collect();
     let run = samples::run();
     if run.solve() != run.sheet {
         eprintln!("ssat_tally: peer {:?}, by hand {:?}", run.solve(), run.sheet);

@@ -121,12 +121,12 @@ pub fn random(test: u64) -> Random {
     Random::new(Random::new(seed).word() ^ test)
 }
 
-/// The path of a program that `rt check` built.
+/// The path of a program that `rt ci` or `rt run` built.
 pub fn program(name: &str) -> PathBuf {
-    let bin = env::var_os("SSAT_BIN_DIR").map_or_else(|| "../../target/bin".into(), PathBuf::from);
+    let bin = env::var_os("SSAT_BIN_DIR").map_or_else(|| format!("../../crates/{name}/out").into(), PathBuf::from);
     let path = Path::new(env!("CARGO_MANIFEST_DIR")).join(bin).join(name);
     let Ok(program) = path.canonicalize() else {
-        panic!("{} is missing: build it by `rt check {name}`, or set SSAT_BIN_DIR.", path.display());
+        panic!("{} is missing: build it by `rt run` in crates/{name}, or set SSAT_BIN_DIR.", path.display());
     };
     program
 }
