@@ -3,7 +3,7 @@ ghost use Rattle.std.specs.Prelude.{◌≡◌};
 ghost use Rattle.value.specs.Value.{verdict};
 
 // How a figure compares with two limits.
-#[derive(Drop)]
+#[derive(Clone, Copy)]
 pub enum Verdict {
     // It is over the upper limit.
     Above,
