@@ -13,7 +13,7 @@
 #![tactic(auto)]
 
 ghost use Rattle.std.specs.Prelude.{◌<◌};
-ghost use Rattle.io.specs.Counts.{IsPrefixLen};
+ghost use Rattle.std.specs.Io.{ReadsAtMost};
 
 use answer::Refusal;
 use clause_reader::cursor::Step;
@@ -21,14 +21,15 @@ use clause_reader::nth_clause;
 use derivation::Checking;
 use derivation_check::check;
 use derivation_writer::{Deriving, derive};
+use full_read::read_full;
 use job_list::{Listing, Parsing, line_at, parse, read_list};
-use libc::{STDIN_FILENO, STDOUT_FILENO};
 use limits::{MAX_BYTES, MAX_CLAUSES};
 use points::{Marking, Marks, Pointing};
 use repair::{Repairing, repair};
 use rule_file::{Reading, read, read_small};
 use solver::{cut, figure, marks, point, verdict};
-use std::num::wrapping_add_usize;
+use std::io;
+use std::io::Read;
 use tally::{Tally, absorbed, begin, kind_of};
 use value::thresholds::Verdict;
 use value::{Cutting, Figuring, Judging};
@@ -40,167 +41,168 @@ const ROOM: usize = MAX_BYTES + 8;
 // What each byte holds that is lent to the writer or the repair.
 const BEFORE: u8 = 90;
 
-fn print(text: &[u8]) {
-    io::write_all(STDOUT_FILENO, text);
+fn print(rt: &impl Print, text: &str) -> io::Result<()> {
+    rt.print(text)
 }
 
-fn print_number(number: u32) {
-    io::print_decimal(STDOUT_FILENO, number as u64);
+fn print_number(rt: &impl Print, number: u32) -> io::Result<()> {
+    rt.print(number)
 }
 
-fn print_value(value: u64) {
-    print(b" ");
-    io::print_decimal(STDOUT_FILENO, value);
+fn print_value(rt: &impl Print, value: u64) -> io::Result<()> {
+    print!(rt; " {value}")
 }
 
 // The number, and the place that it names.
-fn print_refusal(refusal: Refusal) {
+fn print_refusal(rt: &impl Print, refusal: Refusal) -> io::Result<()> {
     match refusal {
-        Refusal::Alone(number) => print_number(number),
+        Refusal::Alone(number) => print_number(rt, number),
         Refusal::At(number, place) => {
-            print_number(number);
-            print_value(place as u64);
+            print_number(rt, number)?;
+            print_value(rt, place as u64)
         }
     }
 }
 
-fn print_reading(reading: Reading) {
+fn print_reading(rt: &impl Print, reading: Reading) -> io::Result<()> {
     match reading {
-        Reading::Refused(refusal) => print_refusal(refusal),
+        Reading::Refused(refusal) => print_refusal(rt, refusal),
         Reading::Accepted(header) => {
-            print_number(0);
-            print_value(header.variables as u64);
-            print_value(header.clauses as u64);
-            print_value(header.prefix as u64);
-            print_value(header.whole);
+            print_number(rt, 0)?;
+            print_value(rt, header.variables as u64)?;
+            print_value(rt, header.clauses as u64)?;
+            print_value(rt, header.prefix as u64)?;
+            print_value(rt, header.whole)
         }
     }
 }
 
-fn print_figure(rule: &[u8]) {
+fn print_figure(rt: &impl Print, rule: &[u8]) -> io::Result<()> {
     match figure(rule) {
-        Figuring::Refused(refusal) => print_refusal(refusal),
+        Figuring::Refused(refusal) => print_refusal(rt, refusal),
         Figuring::Answered(ratio) => {
-            print_number(0);
-            print_value(ratio.figure);
-            print_value(ratio.whole);
+            print_number(rt, 0)?;
+            print_value(rt, ratio.figure)?;
+            print_value(rt, ratio.whole)
         }
     }
 }
 
-fn print_verdict(res: Judging) {
+fn print_verdict(rt: &impl Print, res: Judging) -> io::Result<()> {
     match res {
-        Judging::Refused(refusal) => print_refusal(refusal),
+        Judging::Refused(refusal) => print_refusal(rt, refusal),
         Judging::Answered(verdict) => match verdict {
-            Verdict::Above => print(b"0 above"),
-            Verdict::Below => print(b"0 below"),
+            Verdict::Above => print(rt, "0 above"),
+            Verdict::Below => print(rt, "0 below"),
             Verdict::Within(figure) => {
-                print(b"0 within");
-                print_value(figure);
+                print(rt, "0 within")?;
+                print_value(rt, figure)
             }
         },
     }
 }
 
-fn print_cut(rule: &[u8], level: u64) {
+fn print_cut(rt: &impl Print, rule: &[u8], level: u64) -> io::Result<()> {
     match cut(rule, level) {
-        Cutting::Refused(refusal) => print_refusal(refusal),
+        Cutting::Refused(refusal) => print_refusal(rt, refusal),
         Cutting::Answered(bounds) => {
-            print_number(0);
-            print_value(bounds.lower);
-            print_value(bounds.upper);
-            print_value(bounds.undetermined);
+            print_number(rt, 0)?;
+            print_value(rt, bounds.lower)?;
+            print_value(rt, bounds.upper)?;
+            print_value(rt, bounds.undetermined)
         }
     }
 }
 
 // The bits of a double; of what is no number there are none.
-fn print_double(x: f64) {
+fn print_double(rt: &impl Print, x: f64) -> io::Result<()> {
     if x == x {
-        print_value(f64::to_bits(x));
+        print_value(rt, f64::to_bits(x))
     } else {
-        print(b" nan");
+        print(rt, " nan")
     }
 }
 
-fn print_marks(rule: &[u8], level: u64) {
+fn print_marks(rt: &impl Print, rule: &[u8], level: u64) -> io::Result<()> {
     match marks(rule, level) {
-        Marking::Refused(refusal) => print_refusal(refusal),
+        Marking::Refused(refusal) => print_refusal(rt, refusal),
         Marking::Answered(found) => match found {
             Marks::One(mark) => {
-                print(b"0 one");
-                print_double(mark);
+                print(rt, "0 one")?;
+                print_double(rt, mark)
             }
             Marks::Two(low, high) => {
-                print(b"0 two");
-                print_double(low);
-                print_double(high);
+                print(rt, "0 two")?;
+                print_double(rt, low)?;
+                print_double(rt, high)
             }
         },
     }
 }
 
-fn print_point(rule: &[u8], level: u64) {
+fn print_point(rt: &impl Print, rule: &[u8], level: u64) -> io::Result<()> {
     match point(rule, level) {
-        Pointing::Refused(refusal) => print_refusal(refusal),
+        Pointing::Refused(refusal) => print_refusal(rt, refusal),
         Pointing::Answered(found) => {
-            print_number(0);
-            print_double(found.low);
-            print_double(found.high);
-            print_double(found.open_share);
+            print_number(rt, 0)?;
+            print_double(rt, found.low)?;
+            print_double(rt, found.high)?;
+            print_double(rt, found.open_share)
         }
     }
 }
 
-fn print_checking<'a>(rule: &'a [u8], derivation: &'a [u8]) {
+fn print_checking<'a>(rt: &impl Print, rule: &'a [u8], derivation: &'a [u8]) -> io::Result<()> {
     match check(rule, derivation) {
-        Checking::Refused(refusal) => print_refusal(refusal),
+        Checking::Refused(refusal) => print_refusal(rt, refusal),
         Checking::Accepted(closing) => {
-            print_number(0);
-            print_value(closing.value);
-            print_value(closing.whole);
+            print_number(rt, 0)?;
+            print_value(rt, closing.value)?;
+            print_value(rt, closing.whole)
         }
     }
 }
 
-fn print_literals(clause: &[u8]) {
+fn print_literals(rt: &impl Print, clause: &[u8]) -> io::Result<()> {
     let length = clause.len() / 4;
-    print_value(length as u64);
+    print_value(rt, length as u64)?;
     for i in 0..length {
-        print_value(word(clause, i) as u64);
+        print_value(rt, word(clause, i) as u64)?;
     }
+    Ok(())
 }
 
 // What the clause reader gives of clause j; whether it was a clause.
-fn print_clause(rule: &[u8], j: usize) -> bool {
+fn print_clause(rt: &impl Print, rule: &[u8], j: usize) -> io::Result<bool> {
     match nth_clause(rule, j) {
-        Step::Refused(_) => false,
+        Step::Refused(_) => Ok(false),
         Step::Clause {
             number: _,
             start,
             length,
             next: _,
         } => {
-            print_literals(part(rule, start, length));
-            true
+            print_literals(rt, part(rule, start, length))?;
+            Ok(true)
         }
         Step::Done => {
-            print(b" none");
-            false
+            print(rt, " none")?;
+            Ok(false)
         }
     }
 }
 
 // Clause after clause, and that none is left. The bound only makes the loop end: no accepted file has more clauses.
-fn print_clauses(rule: &[u8]) {
+fn print_clauses(rt: &impl Print, rule: &[u8]) -> io::Result<()> {
     match nth_clause(rule, 0) {
-        Step::Refused(refusal) => print_refusal(refusal),
+        Step::Refused(refusal) => print_refusal(rt, refusal),
         _ => {
-            print_number(0);
+            print_number(rt, 0)?;
             let mut j = 0;
-            while j <= MAX_CLAUSES && print_clause(rule, j) {
+            while j <= MAX_CLAUSES && print_clause(rt, rule, j)? {
                 j += 1;
             }
+            Ok(())
         }
     }
 }
@@ -232,65 +234,76 @@ fn lent(room: &mut [u8], capacity: usize) -> &mut [u8] {
 }
 
 // Whether the buffer holds what the record says. The bytes after those that were lent are looked at too.
-fn print_holds<'a>(room: &'a [u8; ROOM], written: &'a [u8]) {
+fn print_holds<'a>(rt: &impl Print, room: &'a [u8; ROOM], written: &'a [u8]) -> io::Result<()> {
     if holds(room, written) {
-        print(b" right");
+        print(rt, " right")
     } else {
-        print(b" wrong");
+        print(rt, " wrong")
     }
 }
 
-fn print_deriving<'a>(rule: &'a [u8], capacity: usize, written: &'a [u8]) {
+fn print_deriving<'a>(
+    rt: &impl Print,
+    rule: &'a [u8],
+    capacity: usize,
+    written: &'a [u8],
+) -> io::Result<()> {
     let mut room = [BEFORE; ROOM];
     match derive(rule, lent(&mut room, capacity)) {
-        Deriving::Refused(refusal) => print_refusal(refusal),
+        Deriving::Refused(refusal) => print_refusal(rt, refusal)?,
         Deriving::Answered(length) => {
-            print_number(0);
-            print_value(length as u64);
+            print_number(rt, 0)?;
+            print_value(rt, length as u64)?;
         }
     }
-    print_holds(&room, written);
+    print_holds(rt, &room, written)
 }
 
-fn print_repairing<'a>(rule: &'a [u8], capacity: usize, written: &'a [u8]) {
+fn print_repairing<'a>(
+    rt: &impl Print,
+    rule: &'a [u8],
+    capacity: usize,
+    written: &'a [u8],
+) -> io::Result<()> {
     let mut room = [BEFORE; ROOM];
     match repair(rule, lent(&mut room, capacity)) {
-        Repairing::Refused(refusal) => print_refusal(refusal),
+        Repairing::Refused(refusal) => print_refusal(rt, refusal)?,
         Repairing::Repaired(counts) => {
-            print_number(0);
-            print_value(counts.bytes as u64);
-            print_value(counts.clauses as u64);
-            print_value(counts.literals as u64);
-            print_value(counts.reordered as u64);
+            print_number(rt, 0)?;
+            print_value(rt, counts.bytes as u64)?;
+            print_value(rt, counts.clauses as u64)?;
+            print_value(rt, counts.literals as u64)?;
+            print_value(rt, counts.reordered as u64)?;
         }
     }
-    print_holds(&room, written);
+    print_holds(rt, &room, written)
 }
 
 // What a line of the list gives; the index behind it, which no list is long enough to wrap.
-fn print_job(list: &[u8], at: usize) -> usize {
+fn print_job(rt: &impl Print, list: &[u8], at: usize) -> io::Result<usize> {
     let line = line_at(list, at);
     match parse(line) {
-        Parsing::Other => print(b" other"),
+        Parsing::Other => print(rt, " other")?,
         Parsing::Job { name, lower, upper } => {
-            print_value(name as u64);
-            print_value(lower);
-            print_value(upper);
+            print_value(rt, name as u64)?;
+            print_value(rt, lower)?;
+            print_value(rt, upper)?;
         }
     }
-    wrapping_add_usize(wrapping_add_usize(at, line.len()), 1)
+    Ok(at.wrapping_add(line.len()).wrapping_add(1))
 }
 
-fn print_list(list: &[u8]) {
+fn print_list(rt: &impl Print, list: &[u8]) -> io::Result<()> {
     match read_list(list) {
-        Listing::Refused(refusal) => print_refusal(refusal),
+        Listing::Refused(refusal) => print_refusal(rt, refusal),
         Listing::Lines(count) => {
-            print_number(0);
-            print_value(count as u64);
+            print_number(rt, 0)?;
+            print_value(rt, count as u64)?;
             let mut at = 0;
             for _ in 0..count {
-                at = print_job(list, at);
+                at = print_job(rt, list, at)?;
             }
+            Ok(())
         }
     }
 }
@@ -309,35 +322,48 @@ fn tally_in(words: &[u8]) -> Tally {
     }
 }
 
-fn print_tally<'a>(rule: &'a [u8], lo: u64, hi: u64, counts: &'a [u8]) {
+fn print_tally<'a>(
+    rt: &impl Print,
+    rule: &'a [u8],
+    lo: u64,
+    hi: u64,
+    counts: &'a [u8],
+) -> io::Result<()> {
     let result = verdict(rule, lo, hi);
-    print_verdict(result);
+    print_verdict(rt, result)?;
     let tally = absorbed(tally_in(counts), kind_of(result));
-    print_value(tally.files);
-    print_value(tally.refused);
-    print_value(tally.above);
-    print_value(tally.below);
-    print_value(tally.within);
+    print_value(rt, tally.files)?;
+    print_value(rt, tally.refused)?;
+    print_value(rt, tally.above)?;
+    print_value(rt, tally.below)?;
+    print_value(rt, tally.within)
 }
 
-fn print_answer<'a>(operation: usize, a: u64, b: u64, rule: &'a [u8], derivation: &'a [u8]) {
+fn print_answer<'a>(
+    rt: &impl Print,
+    operation: usize,
+    a: u64,
+    b: u64,
+    rule: &'a [u8],
+    derivation: &'a [u8],
+) -> io::Result<()> {
     match operation {
-        1 => print_reading(read(rule)),
-        2 => print_figure(rule),
-        3 => print_verdict(verdict(rule, a, b)),
-        4 => print_cut(rule, a),
-        5 => print_checking(rule, derivation),
-        6 => print_clauses(rule),
-        7 => print_deriving(rule, a as usize, derivation),
-        8 => print_list(rule),
-        9 => print_tally(rule, a, b, derivation),
-        10 => print_reading(read_small(rule)),
-        11 => print_repairing(rule, a as usize, derivation),
-        12 => print_marks(rule, a),
-        13 => print_point(rule, a),
-        _ => print(b"no operation"),
+        1 => print_reading(rt, read(rule))?,
+        2 => print_figure(rt, rule)?,
+        3 => print_verdict(rt, verdict(rule, a, b))?,
+        4 => print_cut(rt, rule, a)?,
+        5 => print_checking(rt, rule, derivation)?,
+        6 => print_clauses(rt, rule)?,
+        7 => print_deriving(rt, rule, a as usize, derivation)?,
+        8 => print_list(rt, rule)?,
+        9 => print_tally(rt, rule, a, b, derivation)?,
+        10 => print_reading(rt, read_small(rule))?,
+        11 => print_repairing(rt, rule, a as usize, derivation)?,
+        12 => print_marks(rt, rule, a)?,
+        13 => print_point(rt, rule, a)?,
+        _ => print(rt, "no operation")?,
     }
-    print(b"\n");
+    print(rt, "\n")
 }
 
 // The number in words i and i + 1 of a record.
@@ -348,39 +374,42 @@ fn long(head: &[u8; 28], i: usize) -> u64
 }
 
 // Reads a file of so many bytes to the start of `room`, as far as there are bytes and room; how many there were.
-fn read_file(length: usize, room: &mut [u8]) -> usize
-    ensures { IsPrefixLen result room.new }
+fn read_file(input: &mut impl Read, length: usize, room: &mut [u8]) -> io::Result<usize>
+    ensures { ReadsAtMost result room.new }
 {
     if room.len() < length {
-        return io::read_full(STDIN_FILENO, room);
+        return read_full(input, room);
     }
-    io::read_full(STDIN_FILENO, &mut room[..length])
+    read_full(input, &mut room[..length])
 }
 
 // Answers the next record; false where there is none.
-fn answer_next() -> bool {
+fn answer_next(rt: &impl Print, input: &mut impl Read) -> io::Result<bool> {
     let mut head = [0; 28];
-    if io::read_full(STDIN_FILENO, &mut head) < 28 {
-        return false;
+    if read_full(input, &mut head)? < 28 {
+        return Ok(false);
     }
     let mut rule = [0; ROOM];
     let mut derivation = [0; ROOM];
-    let r = read_file(word(&head, 5), &mut rule);
-    let d = read_file(word(&head, 6), &mut derivation);
+    let r = read_file(input, word(&head, 5), &mut rule)?;
+    let d = read_file(input, word(&head, 6), &mut derivation)?;
     print_answer(
+        rt,
         word(&head, 0),
         long(&head, 1),
         long(&head, 3),
         &rule[..r],
         &derivation[..d],
-    );
-    true
+    )?;
+    Ok(true)
 }
 
 // The count only makes the loop end, whatever the input: no list of samples is so long.
-fn main() {
+fn main(rt: HostRuntime) -> io::Result<()> {
+    let mut input = rt.stdin();
     let mut records: usize = 100000;
-    while 0 < records && answer_next() {
+    while 0 < records && answer_next(&rt, &mut input)? {
         records -= 1;
     }
+    Ok(())
 }

@@ -2,14 +2,15 @@
 #![tactic(auto)]
 
 use derive_report::derivation_or_refusal;
-use libc::{STDIN_FILENO, STDOUT_FILENO};
+use full_read::read_full;
 use limits::MAX_BYTES;
+use std::io;
 
-fn main() {
+fn main(rt: HostRuntime) -> io::Result<()> {
     // One byte more than a rule file may have, so that a longer input is refused, however it arrives.
     let mut input = [0; MAX_BYTES + 1];
-    let n = io::read_full(STDIN_FILENO, &mut input);
+    let n = read_full(&mut rt.stdin(), &mut input)?;
     let mut out = [0; MAX_BYTES];
     let length = derivation_or_refusal(&input[..n], &mut out);
-    io::write_all(STDOUT_FILENO, &out[..length]);
+    rt.write_all(&out[..length])
 }

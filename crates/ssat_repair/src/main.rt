@@ -2,17 +2,18 @@
 // repair's counts, or the refusal.
 #![tactic(auto)]
 
-use libc::{STDERR_FILENO, STDIN_FILENO, STDOUT_FILENO};
+use full_read::read_full;
 use limits::MAX_BYTES;
 use repair_report::output_and_notice;
+use std::io;
 
-fn main() {
+fn main(rt: HostRuntime) -> io::Result<()> {
     // One byte more than a rule file may have, so that a longer input is refused, however it arrives.
     let mut input = [0; MAX_BYTES + 1];
-    let n = io::read_full(STDIN_FILENO, &mut input);
+    let n = read_full(&mut rt.stdin(), &mut input)?;
     let mut out = [0; MAX_BYTES];
     let mut notice = [0; 117];
     let printed = output_and_notice(&input[..n], &mut out, &mut notice);
-    io::write_all(STDOUT_FILENO, &out[..printed.output]);
-    io::write_all(STDERR_FILENO, &notice[..printed.notice]);
+    rt.write_all(&out[..printed.output])?;
+    rt.stderr().write_all(&notice[..printed.notice])
 }

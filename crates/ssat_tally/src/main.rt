@@ -3,51 +3,57 @@
 #![tactic(auto)]
 
 ghost use Rattle.std.specs.Prelude.{◌≡◌, List, ◌≤◌, length};
+ghost use Rattle.std.specs.Io.{ReadsAtMost};
 ghost use Rattle.buffer.specs.Text.{Begins};
 ghost use Rattle.tally.specs.Tally.{begun, tally_after};
 ghost use Rattle.job_list.specs.JobList.{max_list_bytes, list_lines};
 ghost use Rattle.ssat_tally.specs.Results.{Content, InRoom, Contents, file_kind, line_kind, line_kinds, printed};
 
+use full_read::read_full;
 use job_list::{Listing, MAX_LIST_BYTES, Parsing, line_at, parse, read_list};
-use libc::{STDIN_FILENO, STDOUT_FILENO};
 use limits::MAX_BYTES;
 use report::put_refusal;
 use solver::verdict;
+use std::rt::Files;
+use std::{fs, io, str};
 use tally::{Kind, Tally, absorbed, begin, kind_of};
 use tally_report::tally_text;
 
+// Reads the file of this name to the start of `room`, as far as there is room, and closes it; how many bytes there were.
+// A name that is no UTF-8 opens no file.
+fn read_named(rt: &impl Files, name: &[u8], room: &mut [u8]) -> io::Result<usize>
+    ensures { ReadsAtMost result room.new }
+{
+    let Ok(name) = str::from_utf8(name) else {
+        return Err(io::Error::from(io::ErrorKind::InvalidFilename));
+    };
+    let mut file = fs::open(rt, name)?;
+    read_full(&mut file, room)
+}
+
 // The result of a file. It has room for one byte more than a rule file may have, so that a longer file is refused.
-fn file_result(name: &[u8], lower: u64, upper: u64) -> Kind
+fn file_result(rt: &impl Files, name: &[u8], lower: u64, upper: u64) -> Kind
     ensures { (c : Content) × (InRoom c × (result ≡ file_kind lower upper c)) }
 {
-    let fd = os::open_read(name);
-    if fd < 0 {
-        return Kind::Refused;
-    }
     let mut room = [0; MAX_BYTES + 1];
-    let n = io::read_full(fd, &mut room);
-    // A read that fails ends the reading too: all is read where one more read finds the end.
-    let mut more = [0; 1];
-    let got = libc::read(fd, &mut more);
-    libc::close(fd);
-    if got != 0 {
-        return Kind::Refused;
+    match read_named(rt, name, &mut room) {
+        Ok(n) => kind_of(verdict(&room[..n], lower, upper)),
+        Err(_) => Kind::Refused,
     }
-    kind_of(verdict(&room[..n], lower, upper))
 }
 
 // The result of a line.
-fn line_result(line: &[u8]) -> Kind
+fn line_result(rt: &impl Files, line: &[u8]) -> Kind
     ensures { (c : Content) × (InRoom c × (result ≡ line_kind line.now c)) }
 {
     match parse(line) {
         Parsing::Other => Kind::Refused,
-        Parsing::Job { name, lower, upper } => file_result(&line[..name], lower, upper),
+        Parsing::Job { name, lower, upper } => file_result(rt, &line[..name], lower, upper),
     }
 }
 
 // The tally of the results, line after line.
-fn tally_lines(list: &[u8]) -> Tally
+fn tally_lines(rt: &impl Files, list: &[u8]) -> Tally
     requires { length list.now ≤ max_list_bytes }
     ensures { (cs : List Content) × (Contents (list_lines list.now) cs × (result ≡ tally_after begun (line_kinds (list_lines list.now) cs))) }
 {
@@ -55,27 +61,27 @@ fn tally_lines(list: &[u8]) -> Tally
     let mut at = 0;
     while at < list.len() {
         let line = line_at(list, at);
-        tally = absorbed(tally, line_result(line));
+        tally = absorbed(tally, line_result(rt, line));
         at += line.len() + 1;
     }
     tally
 }
 
 // Writes what is printed for a list at the start of `text`, and answers its length.
-fn answer(list: &[u8], text: &mut [u8; 138]) -> usize
+fn answer(rt: &impl Files, list: &[u8], text: &mut [u8; 138]) -> usize
     ensures { (cs : List Content) × (Contents (list_lines list.now) cs × Begins text.old (printed list.now cs) text.new result) }
 {
     match read_list(list) {
         Listing::Refused(refusal) => put_refusal(text, 0, refusal),
-        Listing::Lines(_) => tally_text(tally_lines(list), text),
+        Listing::Lines(_) => tally_text(tally_lines(rt, list), text),
     }
 }
 
-fn main() {
+fn main(rt: HostRuntime) -> io::Result<()> {
     // One byte more than a list may have, so that a longer list is refused, however it arrives.
     let mut input = [0; MAX_LIST_BYTES + 1];
-    let n = io::read_full(STDIN_FILENO, &mut input);
+    let n = read_full(&mut rt.stdin(), &mut input)?;
     let mut text = [0; 138];
-    let length = answer(&input[..n], &mut text);
-    io::write_all(STDOUT_FILENO, &text[..length]);
+    let length = answer(&rt, &input[..n], &mut text);
+    rt.write_all(&text[..length])
 }
