@@ -6,18 +6,18 @@ use Rattle.derivation.specs.Check.{check_from_13, check_file}
 use Rattle.derivation_check.proofs.check.Statement.{statement}
 use Rattle.derivation_check.proofs.check.Tie as tie
 
-check_counts_requires : tie.Need-check-counts-requires
-check_counts_requires c κs = reading_accepted _ _ _ c.before.before.before.read.ensures.0 c.before.header.given.1
+check_counts_requires : tie.Need-check_counts-requires
+check_counts_requires c κs = reading_accepted _ _ _ c.before.read.ensures.0 c.in-Accepted.is
 
-returns : tie.Need-returns
+returns : tie.Need-returns-in-Refused
 unfolding check_file
-returns c = (then_refused _ _ _ (reading_refused _ _ _ c.before.before.before.read.ensures.0 c.before.refusal.given.1), (refl, refl))
+returns c = (then_refused _ _ _ (reading_refused _ _ _ c.before.read.ensures.0 c.in-Refused.is), (refl, refl))
 
-returns_2 : tie.Need-returns-2
+returns_2 : tie.Need-returns-in-Accepted
 unfolding check_file
 returns_2 c =
-    let (a, _) = reading_accepted _ _ _ c.before.before.before.before.read.ensures.0 c.before.before.header.given.1 in
-    (c.check-counts.ensures ∙ then_accepted _ (λ _. check_from_13 _ _) a, (refl, refl))
+    let (a, _) = reading_accepted _ _ _ c.before.before.read.ensures.0 c.before.in-Accepted.is in
+    (c.check_counts.ensures ∙ then_accepted _ (λ _. check_from_13 _ _) a, (refl, refl))
 
 pub check_spec : {M : Type 1} → statement M
 check_spec =

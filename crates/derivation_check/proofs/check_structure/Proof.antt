@@ -16,20 +16,20 @@ use Rattle.derivation_check.proofs.check_structure.Statement.{statement}
 use Rattle.derivation_check.proofs.check_structure.Tie as tie
 
 -- The places that facts are taken from: the entry, from the first call on; what 15 has found; what 16 has found.
-abbrev entry : tie.After-word → tie.Start
+abbrev entry : tie.After-word-count → tie.Start
 entry c = c.before.before.before
 
-abbrev counted : tie.After-walk-fault → tie.After-word
+abbrev counted : tie.After-walk_fault → tie.After-word-count
 counted c = c.before.before
 
-abbrev walk_at : tie.After-enum-told → tie.After-walk-fault
-walk_at c = c.before.before
+abbrev walk_at : tie.In_default → tie.After-walk_fault
+walk_at c = c.before
 
-abbrev walk_passed : tie.After-literal-fault → tie.After-enum-told
+abbrev walk_passed : tie.After-literal_fault → tie.In_default
 walk_passed c = c.before.before
 
-abbrev literals_at : tie.After-enum-told2 → tie.After-literal-fault
-literals_at c = c.before.before
+abbrev literals_at : tie.In_default-literal_fault → tie.After-literal_fault
+literals_at c = c.before
 
 -- What 15 and 16 find, and that the code finds it
 
@@ -43,83 +43,83 @@ literal_place s = first (line_fails (variable_count s.args.rule.now)) (lines s.a
 variables_are : (s : tie.Start) → s.args.header.variables ≡ variable_count s.args.rule.now
 variables_are s = ap (λ h. h.variables) s.requires.1.0
 
-walk_is : (c : tie.After-walk-fault) → place c.walk_fault.result ≡ walk_place (entry (counted c))
+walk_is : (c : tie.After-walk_fault) → place c.walk_fault.result ≡ walk_place (entry (counted c))
 walk_is c =
     let s = entry (counted c) in
     let d = s.args.derivation.now in
-    c.walk_fault.ensures.0 ∙ (λ j. walk_lines d (variables_are s j) (trailer_start d) ((counted c).word.ensures.0 j) 0)
+    c.walk_fault.ensures.0 ∙ (λ j. walk_lines d (variables_are s j) (trailer_start d) ((counted c).word-count.ensures.0 j) 0)
 
-literal_is : (c : tie.After-literal-fault) → place c.literal-fault.result ≡ literal_place (entry (counted (walk_at (walk_passed c))))
+literal_is : (c : tie.After-literal_fault) → place c.literal_fault.result ≡ literal_place (entry (counted (walk_at (walk_passed c))))
 literal_is c =
     let w = counted (walk_at (walk_passed c)) in
     let s = entry w in
-    c.literal-fault.ensures.0 ∙ (λ j. first (line_fails (variables_are s j)) (lines_from s.args.derivation.now (w.word.ensures.0 j) 0))
+    c.literal_fault.ensures.0 ∙ (λ j. first (line_fails (variables_are s j)) (lines_from s.args.derivation.now (w.word-count.ensures.0 j) 0))
 
 -- Past each of them its check is passed, and past 15 the starts of the lines are kept
 
-walked : (c : tie.After-enum-told) → walk_place (entry (counted (walk_at c))) ≡ none
-walked c = found_nothing (walk_is (walk_at c)) c.enum_told.given.1
+walked : (c : tie.In_default) → walk_place (entry (counted (walk_at c))) ≡ none
+walked c = found_nothing (walk_is (walk_at c)) c.in_default.is
 
-lines_kept : (c : tie.After-enum-told) →
-    let w = walk_at c in LineStarts (entry (counted w)).args.derivation.now (counted w).word.result w.walk_fault.last.1.1.1.1.0
-lines_kept c = (walk_at c).walk_fault.ensures.1.0 (ap place c.enum_told.given.1)
+lines_kept : (c : tie.In_default) →
+    let w = walk_at c in LineStarts (entry (counted w)).args.derivation.now (counted w).word-count.result w.walk_fault.new.starts
+lines_kept c = (walk_at c).walk_fault.ensures.1.0 (ap place c.in_default.is)
 
-in_order : (c : tie.After-enum-told2) → literal_place (entry (counted (walk_at (walk_passed (literals_at c))))) ≡ none
-in_order c = found_nothing (literal_is (literals_at c)) c.enum-told2.given.1
+in_order : (c : tie.In_default-literal_fault) → literal_place (entry (counted (walk_at (walk_passed (literals_at c))))) ≡ none
+in_order c = found_nothing (literal_is (literals_at c)) c.in_default-literal_fault.is
 
 -- What the calls ask, and what each return answers
 
-sub_end : tie.Need-overflow-sub-end
+sub_end : tie.Need-overflow_sub-end
 sub_end c = omega (arith, c.before.before.requires.1.1.right_length.at_least)
 
-word_requires : tie.Need-word-requires
+word_requires : tie.Need-word-count-requires
 word_requires c κs = omega (arith, c.before.before.requires.1.1.right_length.at_least)
 
-walk_fault_requires : tie.Need-walk-fault-requires
+walk_fault_requires : tie.Need-walk_fault-requires
 walk_fault_requires c κs =
     let t = (entry c.before).requires.1.1 in
-    (omega arith, (omega (arith, t.right_length.at_most), (rw c.before.word.ensures.0 t.few_lines, refl)))
+    (omega arith, (omega (arith, t.right_length.at_most), (rw c.before.word-count.ensures.0 t.few_lines, refl)))
 
-returns : tie.Need-returns
+returns : tie.Need-returns-in-At
 unfolding check_from_15
-returns c = rw (found_at (walk_is c.before.before.before) c.before.line.given.1)
+returns c = rw (found_at (walk_is c.before) c.in-At.is)
 
-literal_fault_requires : tie.Need-literal-fault-requires
+literal_fault_requires : tie.Need-literal_fault-requires
 literal_fault_requires c κs =
     let matched = c.before in
     let w = counted (walk_at matched) in (
-      sym (walk_at matched).walk_fault.ensures.0 ∙ ap place matched.enum_told.given.1,
-      (rw w.word.ensures.0 (entry w).pre.1.1.few_lines, lines_kept matched),
+      sym (walk_at matched).walk_fault.ensures.0 ∙ ap place matched.in_default.is,
+      (rw w.word-count.ensures.0 (entry w).requires.1.1.few_lines, lines_kept matched),
     )
 
-returns_2 : tie.Need-returns-2
+returns_2 : tie.Need-returns-in-At-literal_fault
 unfolding check_from_15
-returns_2 c = let l = c.before.before.before in rw (walked (walk_passed l), found_at (literal_is l) c.before.line2.given.1)
+returns_2 c = let l = c.before in rw (walked (walk_passed l), found_at (literal_is l) c.in-At-literal_fault.is)
 
-keep_clauses_requires : tie.Need-keep-clauses-requires
+keep_clauses_requires : tie.Need-keep_clauses-requires
 keep_clauses_requires c κs =
     let w = walk_at (walk_passed (literals_at c.before)) in
     let s = entry (counted w) in
-    (s.pre.0, (s.pre.1.0, w.walk_fault.ensures.1.1))
+    (s.requires.0, (s.requires.1.0, w.walk_fault.ensures.1.1))
 
-check_lines_requires : tie.Need-check-lines-requires
+check_lines_requires : tie.Need-check_lines-requires
 check_lines_requires c κs =
     let ordered = c.before.before.before in
     let matched = walk_passed (literals_at ordered) in
     let w = counted (walk_at matched) in
     let s = entry w in
-    let count = w.word.ensures.0 in (
+    let count = w.word-count.ensures.0 in (
       record {
-        accepted = s.pre.0;
-        header_is = s.pre.1.0;
-        well_formed = record { right_counts = s.pre.1.1; walked = walked matched; no_fault = first_none _ _ (in_order ordered) };
+        accepted = s.requires.0;
+        header_is = s.requires.1.0;
+        well_formed = record { right_counts = s.requires.1.1; walked = walked matched; no_fault = first_none _ _ (in_order ordered) };
       },
-      (count, c.before.keep-clauses.ensures _ (record { each = λ j h. (lines_kept matched).each j (rw count h) })),
+      (count, c.before.keep_clauses.ensures _ (record { each = λ j h. (lines_kept matched).each j (rw count h) })),
     )
 
-returns_3 : tie.Need-returns-3
+returns_3 : tie.Need-returns
 unfolding check_from_15
-returns_3 c = let ordered = c.before.before.before.before in rw (walked (walk_passed (literals_at ordered)), in_order ordered) c.check-lines.ensures
+returns_3 c = let ordered = c.before.before.before.before in rw (walked (walk_passed (literals_at ordered)), in_order ordered) c.check_lines.ensures
 
 pub check_structure_spec : {M : Type 1} → statement M
 check_structure_spec =

@@ -4,16 +4,16 @@ use Rattle.derivation.proofs.LineLaws.{derived_is, value_before}
 use Rattle.derivation_check.proofs.lines.line_fails.Statement.{statement}
 use Rattle.derivation_check.proofs.lines.line_fails.Tie as tie
 
-add_ill_formed : tie.Need-overflow-add-ill-formed
+add_ill_formed : tie.Need-overflow_add-i
 add_ill_formed c = let a = c.before.args in let v = value_before a.derivation.now a.i in omega arith
 
-add_word : tie.Need-overflow-add-word
+add_word : tie.Need-overflow_add-i-2
 add_word c = let a = c.before.args in let v = value_before a.derivation.now a.i in omega arith
 
 word_requires : tie.Need-word-requires
 word_requires c κs = let a = c.before.args in let v = value_before a.derivation.now a.i in omega arith
 
-ill_formed_requires : tie.Need-ill-formed-requires
+ill_formed_requires : tie.Need-ill_formed-requires
 ill_formed_requires c κs = let a = c.before.before.args in let v = value_before a.derivation.now a.i in omega (arith, c.word.ensures.0)
 
 returns : tie.Need-returns

@@ -8,7 +8,7 @@ use Rattle.derivation_check.proofs.parts.line_value.Tie as tie
 
 returns : tie.Need-returns
 unfolding value_at
-returns c = rw (← c.before.before.word.ensures.0) (ap₂ (λ x y. x + 4294967296 * y) c.before.word2.ensures.0 c.word3.ensures.0)
+returns c = rw (← c.before.before.word.ensures.0) (ap₂ (λ x y. x + 4294967296 * y) c.before.word-low.ensures.0 c.word-high.ensures.0)
 
 pub line_value_spec : {M : Type 1} → statement M
 line_value_spec =

@@ -5,7 +5,7 @@ use Rattle.derivation_check.proofs.starts.keep.Statement.{statement}
 use Rattle.derivation_check.proofs.starts.keep.Tie as tie
 
 -- the reference has a place in the table
-element_write_starts : tie.Need-element-write-starts
+element_write_starts : tie.Need-bounds-starts-reference
 element_write_starts c = omega arith
 
 pub keep_spec : {M : Type 1} → statement M

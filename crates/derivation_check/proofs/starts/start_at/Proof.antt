@@ -5,7 +5,7 @@ use Rattle.derivation_check.proofs.starts.start_at.Statement.{statement}
 use Rattle.derivation_check.proofs.starts.start_at.Tie as tie
 
 -- the reference has a place in the table
-element_copy_out_wide : tie.Need-element-copy-out-wide
+element_copy_out_wide : tie.Need-bounds-starts-reference
 element_copy_out_wide c = omega arith
 
 pub start_at_spec : {M : Type 1} → statement M
