@@ -16,7 +16,7 @@ use rule_file::Reading;
 use value::read_with_level;
 
 // The marks of a cut.
-#[derive(Drop)]
+#[derive(Clone, Copy)]
 pub enum Marks {
     // Lower and upper number are the same: one mark for both.
     One(f64),
@@ -51,7 +51,7 @@ pub enum Pointing {
 }
 
 // Both answers at once.
-#[derive(Drop)]
+#[derive(Clone, Copy)]
 pub enum Plotting {
     // The refusal of both.
     Refused(Refusal),
