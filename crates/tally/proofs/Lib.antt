@@ -1,3 +1,2 @@
--- Laws of the tally, and its theorem; and a call of `absorb`.
+-- Laws of the tally, and its theorem.
 pub mod TallyLaws
-pub mod AbsorbCall

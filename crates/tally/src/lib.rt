@@ -22,7 +22,7 @@ pub enum Kind {
 
 // How many files there are in all, and how many of each kind.
 #[repr(C)]
-#[derive(Drop)]
+#[derive(Clone, Copy)]
 pub struct Tally {
     pub files: u64,
     pub refused: u64,

@@ -2,12 +2,8 @@
 use mathlib.Core.Bool.{or-false, or_assoc}
 use Rattle.formula.specs.Formula.{some_of}
 use Rattle.tally.specs.Tally.{is_full}
-use Rattle.tally.proofs.is_full.Statement.{statement}
-use Rattle.tally.proofs.is_full.Tie as tie
+use Rattle.tally.proofs.is_full.Goals as goal
 
-returns : tie.Need-returns
+pub returns : goal.returns
 unfolding is_full some_of
 returns c = simp (or-false, or_assoc)
-
-pub is_full_spec : {M : Type 1} → statement M
-is_full_spec = tie.close (tie.spec returns)
