@@ -8,7 +8,6 @@ use native.Mathlib.Omega.{arith}
 use lib.ListN.{length, drop, length-append, length-drop}
 use Rattle.formula.specs.Formula.{some_of, unordered, equal}
 use Rattle.formula.specs.Quantifier.{denominator}
-use Rattle.formula.specs.Tree.{figure}
 use Rattle.formula.proofs.CopyLaws.{NoCopies}
 use Rattle.answer.specs.Answer.{answer, buffer_after}
 use Rattle.answer.proofs.AnswerLaws.{passed_then, same_answer}
