@@ -9,11 +9,11 @@ use Rattle.words.proofs.PutLaws.{put_first_word, put_word_after}
 use Rattle.derivation_writer.proofs.line.put_trailer.Statement.{statement}
 use Rattle.derivation_writer.proofs.line.put_trailer.Tie as tie
 
-put_word_requires_2 : tie.Need-put-word-requires-2
+put_word_requires_2 : tie.Need-put_word-count-requires
 unfolding word_bytes
 put_word_requires_2 c κs = omega arith
 
-put_word_requires_3 : tie.Need-put-word-requires-3
+put_word_requires_3 : tie.Need-put_word-requires
 unfolding word_bytes
 put_word_requires_3 c κs = omega arith
 
@@ -25,9 +25,9 @@ returns c =
     let start = first.before.before.before in
     let w = start.args.written in
     let room : w.progress.bytes ≤ length start.args.out.now = omega (arith, start.requires) in
-    let lines = put_first_word w.progress.lines first.put_word.ensures in
-    let reference = put_word_after (w.progress.lines ∷ []) room lines w.reference second.put-word2.ensures in
-    put_word_after (w.progress.lines ∷ w.reference ∷ []) room reference (w.progress.bytes / 4 + 3) third.put-word3.ensures
+    let lines = put_first_word w.progress.lines first.put_word-reference.ensures in
+    let reference = put_word_after (w.progress.lines ∷ []) room lines w.reference second.put_word-count.ensures in
+    put_word_after (w.progress.lines ∷ w.reference ∷ []) room reference (w.progress.bytes / 4 + 3) third.put_word.ensures
 
 pub put_trailer_spec : {M : Type 1} → statement M
 put_trailer_spec =
