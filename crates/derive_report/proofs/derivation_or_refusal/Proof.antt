@@ -44,18 +44,18 @@ module _
         let (d, a, put) = length_answered (derive_file b (length before)) before after n (sym e ∙ ap derive_answer c) f in
         rw (text_is ∙ ap derivation_or_refusal a) put
 
-returns : tie.Need-returns
+returns : tie.Need-returns-in-Refused
 returns c =
-    let derived = c.before.before.before.before.before.derive.ensures in
-    let size = c.before.before.before.before.before.before.derive-arg.given.0.1 in
-    let (line, same) = refused_text _ _ _ _ derived.0 derived.1.0 size _ c.before.before.before.refusal.given.1 in
-    rw line (put_begins (rw same at c.put-refusal.ensures), refl)
-
-returns_2 : tie.Need-returns-2
-returns_2 c =
     let derived = c.before.before.before.derive.ensures in
-    let size = c.before.before.before.before.derive-arg.given.0.1 in
-    (put_begins (written_text _ _ _ _ derived.0 derived.1.0 size _ c.before.length.given.1), refl)
+    let size = c.before.before.before.before.derive-arg-1.given.0.1 in
+    let (line, same) = refused_text _ _ _ _ derived.0 derived.1.0 size _ c.before.before.in-Refused.is in
+    rw line (put_begins (rw same at c.put_refusal.ensures), refl)
+
+returns_2 : tie.Need-returns-in-Answered
+returns_2 c =
+    let derived = c.before.derive.ensures in
+    let size = c.before.before.derive-arg-1.given.0.1 in
+    (put_begins (written_text _ _ _ _ derived.0 derived.1.0 size _ c.in-Answered.is), refl)
 
 pub derivation_or_refusal_spec : {M : Type 1} → statement M
 derivation_or_refusal_spec =
