@@ -7,13 +7,12 @@ use Rattle.report.proofs.put_cut.Tie as tie
 
 returns : tie.Need-returns
 unfolding ascii cut_line
-returns c = (c.before.before.put-line.ensures.0, c.before.before.put-line.ensures.1.0)
+returns c = (c.before.before.put_line.ensures.0, c.before.before.put_line.ensures.1.0)
 
 pub put_cut_spec : {M : Type 1} → statement M
 put_cut_spec =
     tie.close
     (tie.spec
-    (λ c. search rules)
     (λ c. search rules)
     (λ c κs. search rules)
     (λ c. search rules)

@@ -5,13 +5,13 @@ use borrow.Author.Rules.{rules}
 use Rattle.report.proofs.put_refusal.Statement.{statement}
 use Rattle.report.proofs.put_refusal.Tie as tie
 
-returns : tie.Need-returns
+returns : tie.Need-returns-in-Alone
 unfolding refusal_line ascii
-returns c = rw c.before.before.before.before.before.before.before.refusal.given.1 c.before.before.put-line.ensures.0
+returns c = rw c.before.before.before.before.before.before.before.in-Alone.is c.before.before.put_line.ensures.0
 
-returns_2 : tie.Need-returns-2
+returns_2 : tie.Need-returns-in-At
 unfolding refusal_line ascii
-returns_2 c = rw c.before.before.before.before.before.before.before.refusal2.given.1 c.before.before.put-line2.ensures.0
+returns_2 c = rw c.before.before.before.before.before.before.before.in-At.is c.before.before.put_line-in-At.ensures.0
 
 pub put_refusal_spec : {M : Type 1} → statement M
 put_refusal_spec =
@@ -20,8 +20,6 @@ put_refusal_spec =
     (λ c. search rules)
     (λ c. search rules)
     (λ c. search rules)
-    (λ c. search rules)
-    (λ c κs. search rules)
     (λ c. search rules)
     (λ c. search rules)
     (λ c. search rules)

@@ -9,18 +9,18 @@ use borrow.Author.Rules.{rules}
 use Rattle.report.proofs.report.Statement.{statement}
 use Rattle.report.proofs.report.Tie as tie
 
-put_accepted_requires : tie.Need-put-accepted-requires
+put_accepted_requires : tie.Need-put_accepted-requires
 put_accepted_requires c κs =
-    let (a, h) = reading_accepted _ _ _ c.before.before.before.before.read.ensures.0 c.before.before.header.given.1 in
+    let (a, h) = reading_accepted _ _ _ c.before.before.read.ensures.0 c.before.in-Accepted.is in
     (a, (h, omega arith))
 
-returns : tie.Need-returns
+returns : tie.Need-returns-in-Refused
 returns c =
-    rw (report_refused _ _ c.before.before.before.before.before.read.ensures.0 _ c.before.before.before.refusal.given.1) (put_begins c.put-refusal.ensures, refl)
+    rw (report_refused _ _ c.before.before.before.read.ensures.0 _ c.before.before.in-Refused.is) (put_begins c.put_refusal.ensures, refl)
 
-returns_2 : tie.Need-returns-2
+returns_2 : tie.Need-returns-in-Accepted
 returns_2 c =
-    rw (report_accepted _ _ c.before.before.before.before.before.read.ensures.0 _ c.before.before.before.header.given.1) (put_begins c.put-accepted.ensures, refl)
+    rw (report_accepted _ _ c.before.before.before.read.ensures.0 _ c.before.before.in-Accepted.is) (put_begins c.put_accepted.ensures, refl)
 
 pub report_spec : {M : Type 1} → statement M
 report_spec =
