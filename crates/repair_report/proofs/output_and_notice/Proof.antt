@@ -53,17 +53,17 @@ module _
         → Begins before (repair_output b) after (size_of (repairing x)) × (Begins start (repair_notice b) end n × (b ≡ b))
     both_begin p = (output_begins, (rw notice_is (put_begins p), refl))
 
-returns : tie.Need-returns
+returns : tie.Need-returns-in-Refused
 returns c =
-    let repaired = c.before.before.before.before.before.repair.ensures in
-    let size = c.before.before.before.before.before.before.repair-arg.given.0.1 in
-    both_begin _ _ _ _ repaired.0 repaired.1.0 size _ c.before.before.before.refusal.given.1 c.put-refusal.ensures
+    let repaired = c.before.before.before.repair.ensures in
+    let size = c.before.before.before.before.repair-arg-1.given.0.1 in
+    both_begin _ _ _ _ repaired.0 repaired.1.0 size _ c.before.before.in-Refused.is c.put_refusal.ensures
 
-returns_2 : tie.Need-returns-2
+returns_2 : tie.Need-returns-in-Repaired
 returns_2 c =
-    let repaired = c.before.before.before.before.before.repair.ensures in
-    let size = c.before.before.before.before.before.before.repair-arg.given.0.1 in
-    both_begin _ _ _ _ repaired.0 repaired.1.0 size _ c.before.before.before.counts.given.1 c.put-counts.ensures
+    let repaired = c.before.before.before.repair.ensures in
+    let size = c.before.before.before.before.repair-arg-1.given.0.1 in
+    both_begin _ _ _ _ repaired.0 repaired.1.0 size _ c.before.before.in-Repaired.is c.put_counts.ensures
 
 pub output_and_notice_spec : {M : Type 1} → statement M
 output_and_notice_spec =

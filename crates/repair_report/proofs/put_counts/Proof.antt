@@ -12,9 +12,9 @@ unfolding counts_text ascii
 returns c =
     let p₃ = c.before.before.before.before in
     let p₂ = p₃.before.before.before.before in
-    let p₁ = p₂.before.before.before.before in
-    let two = put_append zero-le p₁.put-line.ensures.0 p₂.put-line2.ensures.0 in
-    put_append zero-le (put_append zero-le two p₃.put-line3.ensures.0) c.put-line4.ensures.0
+    let p₁ = p₂.before.before.before.before.before.before.before in
+    let two = put_append zero-le p₁.put_line-bytes.ensures.0 p₂.before.before.put_line-clauses.ensures.0 in
+    put_append zero-le (put_append zero-le two p₃.before.put_line-literals.ensures.0) c.put_line.ensures.0
 
 pub put_counts_spec : {M : Type 1} → statement M
 put_counts_spec =
@@ -22,13 +22,9 @@ put_counts_spec =
     (tie.spec
     (λ c. search rules)
     (λ c. search rules)
-    (λ c κs. search rules)
     (λ c. search rules)
     (λ c. search rules)
-    (λ c κs. search rules)
     (λ c. search rules)
-    (λ c. search rules)
-    (λ c κs. search rules)
     (λ c. search rules)
     (λ c. search rules)
     (λ c κs. search rules)
