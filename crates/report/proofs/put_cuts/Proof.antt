@@ -32,11 +32,11 @@ loop_holds : tie.Need-loop-level-init invariant_loop decreases_loop
 unfolding cut_lines
 loop_holds c = (zero-le, refl, omega arith, put_nothing _ _)
 
-mul_put_cut : tie.Need-offset_bounds-cuts-level invariant_loop decreases_loop
-mul_put_cut c = omega (arith, few c)
+offset : tie.Need-offset_bounds-cuts-level invariant_loop decreases_loop
+offset c = omega (arith, few c)
 
-array_copy_out_put_cut : tie.Need-bounds-cuts-level invariant_loop decreases_loop
-array_copy_out_put_cut c = few c
+within : tie.Need-bounds-cuts-level invariant_loop decreases_loop
+within c = few c
 
 put_cut_requires : tie.Need-put_cut-end-requires invariant_loop decreases_loop
 put_cut_requires c κs =
@@ -71,8 +71,8 @@ put_cuts_spec =
     invariant_loop
     decreases_loop
     loop_holds
-    mul_put_cut
-    array_copy_out_put_cut
+    offset
+    within
     put_cut_requires
     add_level
     (λ c. omega arith)
