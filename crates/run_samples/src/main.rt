@@ -198,9 +198,10 @@ fn print_clauses(rt: &impl Print, rule: &[u8]) -> io::Result<()> {
         Step::Refused(refusal) => print_refusal(rt, refusal),
         _ => {
             print_number(rt, 0)?;
-            let mut j = 0;
-            while j <= MAX_CLAUSES && print_clause(rt, rule, j)? {
-                j += 1;
+            for j in 0..=MAX_CLAUSES {
+                if !print_clause(rt, rule, j)? {
+                    break;
+                }
             }
             Ok(())
         }
@@ -407,9 +408,10 @@ fn answer_next(rt: &impl Print, input: &mut impl Read) -> io::Result<bool> {
 // The count only makes the loop end, whatever the input: no list of samples is so long.
 fn main(rt: HostRuntime) -> io::Result<()> {
     let mut input = rt.stdin();
-    let mut records: usize = 100000;
-    while 0 < records && answer_next(&rt, &mut input)? {
-        records -= 1;
+    for _ in 0..100000 {
+        if !answer_next(&rt, &mut input)? {
+            break;
+        }
     }
     Ok(())
 }
