@@ -8,7 +8,7 @@ use Rattle.plain_c.proofs.plain_cut.Tie as tie
 
 returns : tie.Need-returns
 returns c =
-    let (number, stored) = handed_over bounds_values _ c.before.before.cut.ensures.0 c.before.cut-values.ensures c.hand.ensures in
+    let (number, stored) = handed_over bounds_values _ c.before.before.cut.ensures.0 c.before.cut_values.ensures c.hand.ensures in
     (number, (stored, refl))
 
 pub plain_cut_spec : {M : Type 1} → statement M
