@@ -10,7 +10,7 @@ use Rattle.ssat_c.proofs.judge.Tie as tie
 returns : tie.Need-returns
 returns c =
     let handed = c.before in
-    let judged = handed.before.before.before.verdict.ensures.0 in
+    let judged = handed.before.before.before.verdict-result.ensures.0 in
     let (number, stored) = handed_over verdict_values _ judged handed.before.verdict_values.ensures handed.hand.ensures in
     (number, (c.kind_of.ensures ∙ ap kind_of judged, stored))
 

@@ -8,7 +8,7 @@ use Rattle.ssat_c.proofs.ssat_cut.Tie as tie
 
 returns : tie.Need-returns
 returns c =
-    let (number, stored) = handed_over bounds_values _ c.before.before.cut.ensures.0 c.before.cut-values.ensures c.hand.ensures in
+    let (number, stored) = handed_over bounds_values _ c.before.before.cut.ensures.0 c.before.cut_values.ensures c.hand.ensures in
     (number, (stored, refl))
 
 pub ssat_cut_spec : {M : Type 1} → statement M

@@ -8,7 +8,7 @@ use Rattle.ssat_c.proofs.ssat_figure.Tie as tie
 
 returns : tie.Need-returns
 returns c =
-    let (number, stored) = handed_over ratio_values _ c.before.before.figure.ensures.0 c.before.figure-values.ensures c.hand.ensures in
+    let (number, stored) = handed_over ratio_values _ c.before.before.figure.ensures.0 c.before.figure_values.ensures c.hand.ensures in
     (number, (stored, refl))
 
 pub ssat_figure_spec : {M : Type 1} → statement M

@@ -19,10 +19,10 @@ returns : tie.Need-returns
 returns c =
     let put = c.before.before.before in
     let made = put.before.before in
-    let (marks_are, (point_is, _)) = made.plot.ensures in
+    let (marks_are, (point_is, _)) = made.plot-result.ensures in
     let (number, stored) = handed_over mark_values _ marks_are c.before.mark_values.ensures c.hand.ensures in (
-      number ∙ ap code (sym marks_are) ∙ same_code made.plot.result ∙ ap code point_is,
-      (stored, (put.put-point.ensures ∙ ap (λ p. point_after p made.before.before.args.point.now) point_is, refl)),
+      number ∙ ap code (sym marks_are) ∙ same_code made.plot-result.result ∙ ap code point_is,
+      (stored, (put.put_point.ensures ∙ ap (λ p. point_after p made.before.before.args.point.now) point_is, refl)),
     )
 
 pub ssat_point_spec : {M : Type 1} → statement M

@@ -1,7 +1,0 @@
--- `closing_values` meets its contract, by the case of the check's answer. Assumes nothing.
-use borrow.Author.Rules.{rules}
-use Rattle.ssat_c.proofs.closing_values.Statement.{statement}
-use Rattle.ssat_c.proofs.closing_values.Tie as tie
-
-pub closing_values_spec : {M : Type 1} → statement M
-closing_values_spec = tie.close (tie.spec (λ c. search rules) (λ c. search rules) (λ c. rw c.before.result.given.1) (λ c. rw c.before.result2.given.1))
