@@ -1,41 +1,23 @@
 -- The program's results: of a line, and of the lines so far. Then the theorem on what it prints. Assumes nothing.
 use Prim.Native.Nat.{ℕ, suc, ◌+◌, ◌≤◌, ◌<◌}
 use native.Mathlib.Omega.{arith}
-use mathlib.Core.Path.{◌≡◌, refl, sym, ap, subst, ◌∙◌}
+use mathlib.Core.Path.{◌≡◌, refl, sym, ap, ◌∙◌}
 use mathlib.Core.List.{List, [], ◌∷◌, ◌++◌, append-nil, append_assoc}
-use mathlib.Core.Option.{Option, none, some}
+use mathlib.Core.Option.{none}
 use lib.ListN.{length, drop}
 use Rattle.answer.specs.Answer.{refused, answer}
 use Rattle.answer.specs.declared.Refusal.{Refusal}
 use Rattle.buffer.specs.Text.{Begins}
 use Rattle.tally.specs.declared.Tally.{Tally}
 use Rattle.tally.specs.declared.Kind.{Kind}
-use Rattle.tally.specs.declared.Kind.TheVariants.{Refused}
 use Rattle.tally.specs.Tally.{begun, step, tally_after, tally_of}
 use Rattle.tally.proofs.TallyLaws.{tally_after_snoc, tally_counts, kinds_add_up}
-use Rattle.job_list.specs.declared.Parsing.{Parsing}
-use Rattle.job_list.specs.declared.Parsing.TheVariants as parsing_variants
-use Rattle.job_list.specs.JobList.{Job, list_lines, list_file, list_line_at, name_within}
-use Rattle.job_list.proofs.SplitLaws.{lines_step, lines_over, line_within}
+use Rattle.job_list.specs.JobList.{list_lines, list_file, list_line_at}
+use Rattle.job_list.proofs.SplitLaws.{lines_step, lines_over}
 use Rattle.job_list.proofs.ListLaws.{accepted_list}
 use Rattle.report.specs.Report.{refusal_line}
 use Rattle.tally_report.specs.TallyReport.{tally_text}
-use Rattle.ssat_tally.specs.Results.{Content, InRoom, Contents, file_kind, job_kind, line_kind, line_kinds, printed}
-
--- a line of another form, and one that gives a job
-pub other_kind : (o : Option Job) (c : Content) → o ≡ none → Refused ≡ job_kind o c
-other_kind o c e = rw e refl
-
-pub job_kind_is : (o : Option Job) (j : Job) (c : Content) (k : Kind) → o ≡ some j → k ≡ file_kind j.lower j.upper c → k ≡ job_kind o c
-job_kind_is o j c k e f = rw e f
-
--- the name that is told ends within the line
-pub name_ends :
-    (line : List ℕ) (r : Parsing) (n lower upper : ℕ)
-    → name_within line r
-    → r ≡ parsing_variants.Job n lower upper
-    → n ≤ length line
-name_ends line r n lower upper h e = rw e at h
+use Rattle.ssat_tally.specs.Results.{Content, InRoom, Contents, line_kind, line_kinds, printed}
 
 -- nothing read for any line
 nothing_for : List (List ℕ) → List Content
@@ -82,9 +64,6 @@ unfolding tally_after
 none_yet b = record { before = []; all = refl; so_far = ([], (tt, refl)) }
 
 module _ (b : List ℕ) (at : ℕ) (l : List ℕ) (h : at < length b) (e : l ≡ list_line_at b at) where
-  pub line_ends : at + length l ≤ length b
-  line_ends = rw e (line_within b at h)
-
   pub one_more :
       (t u : Tally) (k : Kind)
       → TalliedTo b at t
@@ -124,16 +103,13 @@ printed_tally :
     → tally_text t ≡ printed b cs
 printed_tally b cs k t e h = rw e (ap tally_text h)
 
--- what a buffer begins with, by the list's answer; of a refused list nothing is read
-module _ (b before after : List ℕ) (n : ℕ) where
-  abbrev Prints : Type 0
-  Prints = (cs : List Content) × (Contents (list_lines b) cs × Begins before (printed b cs) after n)
-
-  pub prints_refusal : (r : Refusal) → list_file b ≡ refused r → Begins before (refusal_line r) after n → Prints
-  prints_refusal r e h = (nothing_for (list_lines b), (nothing_read (list_lines b), rw e h))
-
-  pub prints_tally : (k : ℕ) (t : Tally) → list_file b ≡ answer k → Tallied (list_lines b) t → Begins before (tally_text t) after n → Prints
-  prints_tally k t e (cs, (read, tally)) h = (cs, (read, subst (λ text. Begins before text after n) (printed_tally b cs k t e tally) h))
+-- a buffer that begins with a refused list's line begins with what is printed; of such a list nothing is read
+pub prints_refusal :
+    (b before after : List ℕ) (n : ℕ) (r : Refusal)
+    → list_file b ≡ refused r
+    → Begins before (refusal_line r) after n
+    → (cs : List Content) × (Contents (list_lines b) cs × Begins before (printed b cs) after n)
+prints_refusal b before after n r e h = (nothing_for (list_lines b), (nothing_read (list_lines b), rw e h))
 
 -- one result for each line
 as_many : (ls : List (List ℕ)) (cs : List Content) → Contents ls cs → length (line_kinds ls cs) ≡ length ls
