@@ -6,6 +6,7 @@ use crate::list::{self, Job, Kind, Tally};
 use crate::random::Random;
 use crate::rules::{self, Fault, Rules, REFUSALS};
 use std::collections::BTreeMap;
+use std::str::from_utf8;
 
 /// A rule file in a folder.
 pub struct File {
@@ -134,9 +135,9 @@ impl Folder {
         }
     }
 
-    /// The kind of the result for a line's file.
+    /// The kind of the result for a line's file. A name that is no UTF-8 opens none.
     pub fn kind(&self, job: &Job) -> Kind {
-        let Some(&file) = self.names.get(job.name) else {
+        let Some(&file) = self.names.get(job.name).filter(|_| from_utf8(job.name).is_ok()) else {
             return Kind::Refused;
         };
         Kind::of(&Solver::new(&self.files[file].rules).verdict(job.lo, job.hi))
