@@ -25,6 +25,8 @@ enum Sort {
     Plain,
     Odd,
     LongName,
+    /// An accepted file, by a name that is no UTF-8.
+    NoText,
     /// An accepted file of 65,536 bytes.
     Longest,
     Refused,
@@ -39,12 +41,11 @@ pub struct Folder {
     /// The file that each name opens.
     names: BTreeMap<Vec<u8>, usize>,
     /// The names of each sort.
-    sorts: [Vec<Vec<u8>>; 6],
+    sorts: [Vec<Vec<u8>>; 7],
 }
 
-const ODD: [&[u8]; 13] = [
+const ODD: [&[u8]; 12] = [
     "größe".as_bytes(),
-    b"\xff\x80",
     b"x\ty",
     b"\t",
     b"\x01\x7f",
@@ -57,6 +58,9 @@ const ODD: [&[u8]; 13] = [
     b"18446744073709551616",
     b"*",
 ];
+
+/// Bytes of no character, a character cut short, a slash in two bytes, and half of a pair that stands for a character.
+const NO_TEXT: [&[u8]; 4] = [b"\xff\x80", b"gr\xc3", b"\xc0\xaf", b"\xed\xa0\x80"];
 
 const DIRECTORIES: [&[u8]; 7] = [b".", b"..", b"./", b"sub", b"sub/", b"sub/..", b"/"];
 
@@ -98,6 +102,9 @@ impl Folder {
             folder.also(Sort::Odd, name.as_bytes(), path.as_bytes());
         }
         folder.also(Sort::LongName, &long_name(b"a", LONGEST_NAME), b"a");
+        for path in NO_TEXT {
+            folder.add(Sort::NoText, path, accepted_rule(random));
+        }
         for fault in REFUSALS {
             folder.add(Sort::Refused, format!("fault-{fault}").as_bytes(), refused_rule(random, fault));
         }
@@ -261,7 +268,7 @@ const fn judged(name: &'static str, make: Make) -> Shape {
     Shape { name, refused: false, make }
 }
 
-const SHAPES: [Shape; 35] = [
+const SHAPES: [Shape; 36] = [
     judged("limits in order", |random, folder| folder.plain(random).bytes()),
     refused("limits crossed", |random, folder| {
         let mut job = folder.plain(random);
@@ -346,6 +353,7 @@ const SHAPES: [Shape; 35] = [
     }),
     judged("name of 4,095 bytes", |random, folder| folder.job(random, Sort::LongName).bytes()),
     judged("odd name", |random, folder| folder.job(random, Sort::Odd).bytes()),
+    refused("name that is no UTF-8", |random, folder| folder.job(random, Sort::NoText).bytes()),
     refused("refused file", |random, folder| folder.job(random, Sort::Refused).bytes()),
     judged("file of 65,536 bytes", |random, folder| folder.job(random, Sort::Longest).bytes()),
     refused("file over 65,536 bytes", |random, folder| folder.job(random, Sort::TooLong).bytes()),
