@@ -32,8 +32,6 @@ enum Sort {
     Refused,
     /// A file that is refused for its length.
     TooLong,
-    /// An accepted file by a name that is no UTF-8, which opens none.
-    NoText,
 }
 
 /// The rule files that random lists name.
@@ -100,7 +98,6 @@ impl Folder {
         for path in ODD.into_iter().chain([&[b'n'; LONGEST_PART][..]]) {
             folder.add(Sort::Odd, path, accepted_rule(random));
         }
-        folder.add(Sort::NoText, b"\xff\x80", accepted_rule(random));
         for (name, path) in [("./a", "a"), (".//b", "b"), ("./././c", "c"), ("sub/../d", "d"), ("sub//b", "sub/b")] {
             folder.also(Sort::Odd, name.as_bytes(), path.as_bytes());
         }
@@ -354,7 +351,6 @@ const SHAPES: [Shape; 36] = [
         job.name = if random.once_in(3) { vec![b'n'; LONGEST_PART + 1] } else { long_name(&job.name, length) };
         job.bytes()
     }),
-    refused("name that is no UTF-8", |random, folder| folder.job(random, Sort::NoText).bytes()),
     judged("name of 4,095 bytes", |random, folder| folder.job(random, Sort::LongName).bytes()),
     judged("odd name", |random, folder| folder.job(random, Sort::Odd).bytes()),
     refused("name that is no UTF-8", |random, folder| folder.job(random, Sort::NoText).bytes()),
