@@ -19,8 +19,8 @@ use std::{fs, io, str};
 use tally::{Kind, Tally, absorbed, begin, kind_of};
 use tally_report::tally_text;
 
-// Reads the file of this name to the start of `room`, as far as there is room, and closes it; how many bytes there were.
-// A name that is no UTF-8 opens no file.
+// Reads the file of this name whole to the start of `room`, and closes it; how many bytes there were. What has more
+// than there is room for, or gives more after its end, is not read whole. A name that is no UTF-8 opens no file.
 fn read_named(rt: &impl Files, name: &[u8], room: &mut [u8]) -> io::Result<usize>
     ensures { ReadsAtMost result room.new }
 {
@@ -28,7 +28,12 @@ fn read_named(rt: &impl Files, name: &[u8], room: &mut [u8]) -> io::Result<usize
         return Err(io::Error::from(io::ErrorKind::InvalidFilename));
     };
     let mut file = fs::open(rt, name)?;
-    read_full(&mut file, room)
+    let n = read_full(&mut file, room)?;
+    let mut more = [0; 1];
+    if read_full(&mut file, &mut more)? != 0 {
+        return Err(io::Error::from(io::ErrorKind::FileTooLarge));
+    }
+    Ok(n)
 }
 
 // The result of a file. It has room for one byte more than a rule file may have, so that a longer file is refused.
