@@ -14,7 +14,7 @@ use value::thresholds::Verdict;
 use value::{Cutting, Figuring, Judging};
 
 // What is handed over.
-#[derive(Drop)]
+#[derive(Clone, Copy)]
 pub enum Handing {
     // A refusal.
     Refused(Refusal),

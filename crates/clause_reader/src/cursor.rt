@@ -20,7 +20,7 @@ pub enum Cursor {
 }
 
 // What the reader gives.
-#[derive(Drop)]
+#[derive(Clone, Copy)]
 pub enum Step {
     // The file is refused.
     Refused(Refusal),

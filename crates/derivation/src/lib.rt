@@ -5,14 +5,14 @@
 use answer::Refusal;
 
 // The value of the empty clause that the derivation closes with, out of the whole.
-#[derive(Drop)]
+#[derive(Clone, Copy)]
 pub struct Closing {
     pub value: u64,
     pub whole: u64,
 }
 
 // The check's answer.
-#[derive(Drop)]
+#[derive(Clone, Copy)]
 pub enum Checking {
     // The rule file's refusal, or the derivation's; 15 to 20 with the line.
     Refused(Refusal),

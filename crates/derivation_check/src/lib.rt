@@ -27,7 +27,7 @@ use rule_file::{Header, Reading, read};
 use words::{Found, has_wrong_length, word};
 
 // What judging lines finds first.
-#[derive(Drop)]
+#[derive(Clone, Copy)]
 pub enum Fault {
     // Each line follows.
     Nothing,

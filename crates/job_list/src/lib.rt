@@ -27,7 +27,7 @@ enum Limiting {
 }
 
 // What a line gives.
-#[derive(Drop)]
+#[derive(Clone, Copy)]
 pub enum Parsing {
     // It is of another form.
     Other,
@@ -36,7 +36,7 @@ pub enum Parsing {
 }
 
 // What a list is.
-#[derive(Drop)]
+#[derive(Clone, Copy)]
 pub enum Listing {
     // 24.
     Refused(Refusal),

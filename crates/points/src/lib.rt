@@ -25,7 +25,7 @@ pub enum Marks {
 }
 
 // The point of a cut: its low and its high mark, and its open weight as a share of the whole.
-#[derive(Drop)]
+#[derive(Clone, Copy)]
 pub struct Point {
     pub low: f64,
     pub high: f64,
@@ -33,7 +33,7 @@ pub struct Point {
 }
 
 // The answer of the marks.
-#[derive(Drop)]
+#[derive(Clone, Copy)]
 pub enum Marking {
     // The reader's refusal, 12 for the level or 27 for the whole.
     Refused(Refusal),
@@ -42,7 +42,7 @@ pub enum Marking {
 }
 
 // The answer of the point.
-#[derive(Drop)]
+#[derive(Clone, Copy)]
 pub enum Pointing {
     // The reader's refusal, 12 for the level or 27 for the whole.
     Refused(Refusal),

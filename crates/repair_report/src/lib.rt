@@ -11,7 +11,7 @@ use repair::{Repairing, Repairs, repair};
 use report::put_refusal;
 
 // How many bytes go to standard output and to standard error.
-#[derive(Drop)]
+#[derive(Clone, Copy)]
 pub struct Printed {
     pub output: usize,
     pub notice: usize,

@@ -12,7 +12,7 @@ use value::thresholds::Verdict;
 const FULL: u64 = 4096;
 
 // The kind of a file's result.
-#[derive(Drop)]
+#[derive(Clone, Copy)]
 pub enum Kind {
     Refused,
     Above,

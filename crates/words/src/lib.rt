@@ -7,7 +7,7 @@ ghost use Rattle.std.specs.Prelude.{◌≡◌, ◌+◌, ◌^◌, ◌<◌};
 ghost use Rattle.words.specs.Words.{word, word_count, part, wrong_length};
 
 // Where a search over clauses, variables or lines found something first.
-#[derive(Drop)]
+#[derive(Clone, Copy)]
 pub enum Found {
     // Nowhere.
     Nothing,
