@@ -1,5 +1,5 @@
 -- The check's answer, one check at a time: 14, what a refusal of a line passes on, and what has passed 21. 13 is
--- WordsLaws' right-length, and 15 and 16 are places that WalkLaws speaks of. Assumes nothing.
+-- WordsLaws' right_length, and 15 and 16 are places that WalkLaws speaks of. Assumes nothing.
 use mathlib.Core.Path.{◌≡◌, refl}
 use mathlib.Core.List.{List}
 use mathlib.Core.Option.{Option, none, some}

@@ -16,7 +16,7 @@ use Rattle.derivation.specs.declared.Closing.{Closing}
 use Rattle.derivation.specs.declared.Checking.{Checking}
 use Rattle.derivation.specs.declared.Checking.TheVariants.{Refused, Accepted}
 
--- 13 is wrong-length, for a file that holds its trailer. 14: the last word is not the word count, or there are more
+-- 13 is wrong_length, for a file that holds its trailer. 14: the last word is not the word count, or there are more
 -- than 1,024 lines
 unfoldable pub wrong_counts : List ℕ → Bool
 wrong_counts d = not (eqb (stated_count d) (word_count d)) || ltb max_lines (line_count d)
@@ -45,7 +45,7 @@ abbrev pub close : Option ℕ → ℕ → Answer Closing
 close none whole = refused (refusal.Alone 21)
 close (some x) whole = answer (record { value = x; whole = whole })
 
--- the checks from 21 back to 13; judge-lines has 17 to 20
+-- the checks from 21 back to 13; judge_lines has 17 to 20
 unfoldable pub check_from_21 : List ℕ → List ℕ → Answer Closing
 check_from_21 b d = close (closing_value (clauses b) (lines d) (closing_reference d)) (whole b)
 

@@ -1,5 +1,5 @@
 -- The premise of R.2 as document 01 states it, a test of the clauses, is the one that 004 states, over assignments. The
--- test gives 004's by opposed-satisfied. For the converse, an assignment falsifies the line c and, where it can, a
+-- test gives 004's by opposed_satisfied. For the converse, an assignment falsifies the line c and, where it can, a
 -- clause d of the formula: a literal of d that is true under it has its opposite in c. Assumes that c is in range, and
 -- that neither c nor a clause of the formula is a tautology.
 use Prim.Native.Nat.{ℕ, zero, suc, ◌%◌, ◌<◌}

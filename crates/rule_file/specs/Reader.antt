@@ -17,7 +17,7 @@ use Rattle.rule_file.specs.declared.Header.{Header}
 use Rattle.rule_file.specs.declared.Reading.{Reading}
 use Rattle.rule_file.specs.declared.Reading.TheVariants.{Refused, Accepted}
 
--- 1 is wrong-length, for a file that holds its trailer. 2: the last word is not the word count
+-- 1 is wrong_length, for a file that holds its trailer. 2: the last word is not the word count
 unfoldable pub wrong_count : List ℕ → Bool
 wrong_count b = not (eqb (stated_count b) (word_count b))
 
@@ -29,7 +29,7 @@ too_many most b = ltb most (variable_count b) || ltb max_clauses (clause_count b
 unfoldable pub wrong_prefix : List ℕ → Bool
 wrong_prefix b = not (eqb (prefix_start b + 2 * variable_count b) (word_count b - 4))
 
--- 5 is walk-clauses; 6 is out_of_range, a literal of 2n or more; 7 is repeats, a variable twice; 23 is unordered,
+-- 5 is walk_clauses; 6 is out_of_range, a literal of 2n or more; 7 is repeats, a variable twice; 23 is unordered,
 -- variables that do not rise; 26 is a first copy, a clause that equals an earlier one; 8 is malformed. 9: the whole is
 -- over 2^60
 unfoldable pub too_large : List ℕ → Bool

@@ -7,7 +7,7 @@ use Rattle.prefix_words.specs.Prefix.{prefix_from}
 use Rattle.clause_words.specs.Clauses.{clauses_from}
 
 -- the trailer's four words, the file's last: m, n, the word where the prefix begins, and the count of all words,
--- stated-count
+-- stated_count
 abbrev pub clause_count : List ℕ → ℕ
 clause_count b = word b (word_count b - 4)
 

@@ -34,7 +34,7 @@ part b i k = cond (leb (i + k) (word_count b)) (take (4 * k) (drop (4 * i) b)) [
 unfoldable pub wrong_length : ℕ → ℕ → List ℕ → Bool
 wrong_length least most b = not (eqb (length b % 4) 0) || ltb (length b) least || ltb most (length b)
 
--- a length that is not wrong-length
+-- a length that is not wrong_length
 pub record Length (least most : ℕ) (b : List ℕ) : Type 0 where
   pub whole_words : length b % 4 ≡ 0
   pub at_least : least ≤ length b
