@@ -1,8 +1,6 @@
 -- Every sample's question has its outcome, computed. Assumes nothing.
 use mathlib.Core.Path.{◌≡◌, refl}
 use mathlib.Core.List.{map}
-use lib.Count.{count_trailing_zeros}
-use lib.Ieee.{span, climb, size, odd, units, round, div, of_int, of_fields, of_bits}
 use Rattle.formula.specs.Literals.{literal_status_by, clause_status_by, formula_status_by, unset_literals_by, is_unit_by, clash_by, node_status_by}
 use Rattle.formula.specs.Formula.{are_opposite, some_of, those, first_of_each, out_of_range, repeats, unordered, ill_formed, without, insert_once, rising, equal, all_of}
 use Rattle.formula.specs.LevelRules.{denominator_by}
@@ -16,7 +14,6 @@ use Rattle.clause_words.specs.Clauses.{clause_fits}
 use Rattle.rule_file.specs.Reader.{wrong_count, too_many, wrong_prefix, too_large, read_from_8, read_from_26, read_from_6, read_from_5, read_from_3, read_within, read_file, read_small, read_stored}
 use Rattle.value.specs.Value.{figure_file, verdict, verdict_file, read_with_limits}
 use Rattle.value.specs.Cut.{read_with_level, cut_file}
-use Rattle.points.specs.Points.{share, marks_of, point_for, read_to_plot, marks_file, point_file}
 use Rattle.derivation.specs.DerivationFile.{value_at, line_of, after_line}
 use Rattle.derivation.specs.Check.{wrong_counts, line_fits, check_from_21, check_from_17, check_from_15, check_from_13, check_file}
 use Rattle.written_derivation.specs.Writing.{path_opposites_from, walk_tree}
@@ -34,7 +31,6 @@ unfolding literal_status_by clause_status_by formula_status_by some_of all_of th
     bytes_of word_bytes elements first first_copy_after walk word wrong_length quantifier
     wrong_count too_many wrong_prefix clause_fits malformed too_large read_from_8 read_from_26 read_from_6 read_from_5 read_from_3 read_within read_file read_small read_stored
     figure_file read_with_limits verdict verdict_file read_with_level cut_file
-    count_trailing_zeros span climb size odd units round div of_int of_fields of_bits share marks_of point_for read_to_plot marks_file point_file
     level is_resolvent lookup require judge_resolvent judge first_refusal judge_from empty_value
     value_at line_of after_line wrong_counts line_fits check_from_21 check_from_17 check_from_15 check_from_13 check_file
     path_opposites_from walk_tree line_words lines_words derivation_words derivation_for too_long derive_file

@@ -1,3 +1,4 @@
--- The claim over the samples, and the program's text for the example.
+-- The claims over the samples, and the program's text for the example.
 pub mod Claim
+pub mod PointClaim
 pub mod ExampleText

@@ -1,2 +1,3 @@
 -- The documents' proved samples.
 pub mod Samples
+pub mod PointSamples

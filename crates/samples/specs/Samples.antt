@@ -1,10 +1,7 @@
 -- Document 01's samples P1 to P12, the places that document 02 (i) adds to refusals, the derivations that (ii) writes,
--- the order that (iv) asks for, the nodes that (v) calls lost, the limits of (vii), the repairs of (viii), the copies
--- of (ix) and the marks of (x), in one list: each a question to an operation, and the answer that it must give. Assumes
--- nothing.
-use Rattle.std.specs.Prelude.{List, [], ◌∷◌, ◌++◌, ℕ, ◌+◌, ◌*◌, length, replicate, Float}
-use Rattle.std.specs.Float.{binary64}
-use Rattle.std.specs.Float.Ieee.{of_bits}
+-- the order that (iv) asks for, the nodes that (v) calls lost, the limits of (vii), the repairs of (viii) and the
+-- copies of (ix), in one list: each a question to an operation, and the answer that it must give. Assumes nothing.
+use Rattle.std.specs.Prelude.{List, [], ◌∷◌, ◌++◌, ℕ, ◌+◌, ◌*◌, length, replicate}
 use Rattle.bounds.specs.declared.Bounds.{Bounds}
 use Rattle.answer.specs.Answer.{Answer, refused, answer}
 use Rattle.answer.specs.declared.Refusal.TheVariants.{Alone, At}
@@ -16,10 +13,6 @@ use Rattle.value.specs.Value.{figure_file, verdict_file}
 use Rattle.value.specs.declared.thresholds.Verdict.{Verdict}
 use Rattle.value.specs.declared.thresholds.Verdict.TheVariants.{Above, Below, Within}
 use Rattle.value.specs.Cut.{cut_file}
-use Rattle.points.specs.declared.Marks.{Marks}
-use Rattle.points.specs.declared.Marks.TheVariants.{One, Two}
-use Rattle.points.specs.declared.Point.{Point}
-use Rattle.points.specs.Points.{marks_file, point_file}
 use Rattle.derivation.specs.declared.Closing.{Closing}
 use Rattle.derivation.specs.Check.{check_file}
 use Rattle.written_derivation.specs.Derive.{derive_file}
@@ -32,8 +25,6 @@ pub data Question : Type 0 where
   figure : List ℕ → Question
   verdict : List ℕ → ℕ → ℕ → Question
   cut : List ℕ → ℕ → Question
-  marks : List ℕ → ℕ → Question
-  point : List ℕ → ℕ → Question
   check : List ℕ → List ℕ → Question
   derive : List ℕ → ℕ → Question
   repair : List ℕ → ℕ → Question
@@ -44,8 +35,6 @@ pub data Expected : Type 0 where
   figured : Answer Ratio → Expected
   judged : Answer Verdict → Expected
   bounded : Answer Bounds → Expected
-  marked : Answer Marks → Expected
-  pointed : Answer Point → Expected
   checked : Answer Closing → Expected
   written : Answer (List ℕ) → Expected
   counted : Answer Repairs → Expected
@@ -57,8 +46,6 @@ ask (read_by_small ws) = stated (read_small (bytes_of ws))
 ask (figure ws) = figured (figure_file (bytes_of ws))
 ask (verdict ws lo hi) = judged (verdict_file (bytes_of ws) lo hi)
 ask (cut ws level) = bounded (cut_file (bytes_of ws) level)
-ask (marks ws level) = marked (marks_file (bytes_of ws) level)
-ask (point ws level) = pointed (point_file (bytes_of ws) level)
 ask (check ws ds) = checked (check_file (bytes_of ws) (bytes_of ds))
 ask (derive ws capacity) = written (derive_file (bytes_of ws) capacity)
 ask (repair ws capacity) = counted (repair_answer (bytes_of ws) capacity)
@@ -83,19 +70,6 @@ out_of x w = figured (answer (record { figure = x; whole = w }))
 -- lower number, upper number and open weight
 abbrev between : ℕ → ℕ → ℕ → Expected
 between l u o = bounded (answer (record { lower = l; upper = u; undetermined = o }))
-
--- doubles by their bits: one mark, two marks, and a point
-abbrev double : ℕ → Float
-double bits = of_bits binary64 bits
-
-abbrev one_mark : ℕ → Expected
-one_mark x = marked (answer (One (double x)))
-
-abbrev two_marks : ℕ → ℕ → Expected
-two_marks x y = marked (answer (Two (double x) (double y)))
-
-abbrev point_at : ℕ → ℕ → ℕ → Expected
-point_at x y z = pointed (answer (record { low = double x; high = double y; open_share = double z }))
 
 -- a refusal of number k that names the clause or variable i
 abbrev refused_at : ℕ → ℕ → Expected
@@ -144,14 +118,6 @@ variable_twice = 1 ∷ 0 ∷ 2 ∷ 2 ∷ 3 ∷ 0 ∷ 0 ∷ 0 ∷ 0 ∷ 2 ∷ 2 �
 -- clauses {0} and {2, 0} over two choices: the variables of clause 1 do not rise
 abbrev pub not_rising : List ℕ
 not_rising = 1 ∷ 0 ∷ 2 ∷ 2 ∷ 0 ∷ 0 ∷ 0 ∷ 0 ∷ 0 ∷ 2 ∷ 2 ∷ 5 ∷ 13 ∷ []
-
--- clause {0} over a draw of two odds
-abbrev drawn : ℕ → ℕ → List ℕ
-drawn t f = 1 ∷ 0 ∷ t ∷ f ∷ 1 ∷ 1 ∷ 2 ∷ 8 ∷ []
-
--- no clause, over draws whose totals come to 2^53 + 4, the smallest whole over 2^53
-abbrev over_plotted : List ℕ
-over_plotted = 1 ∷ 35 ∷ 1 ∷ 306 ∷ 1 ∷ 2856 ∷ 1 ∷ 6528 ∷ 1 ∷ 43690 ∷ 0 ∷ 5 ∷ 0 ∷ 14 ∷ []
 
 unfoldable pub samples : List Sample
 samples =
@@ -254,20 +220,4 @@ samples =
     sample (repaired (over_three 4 (1 ∷ 0 ∷ 1 ∷ 2 ∷ 1 ∷ 2 ∷ 1 ∷ 0 ∷ [])) 72) (written_as (over_three 2 (1 ∷ 0 ∷ 1 ∷ 2 ∷ []))) ∷
     sample (repair (over_three 2 (2 ∷ 0 ∷ 4 ∷ 3 ∷ 4 ∷ 0 ∷ 4 ∷ [])) 68) (counts 52 1 0 0) ∷
     sample (repair (over_three 2 (2 ∷ 4 ∷ 0 ∷ 2 ∷ 0 ∷ 4 ∷ [])) 64) (counts 52 1 0 1) ∷
-    -- marks and points: 1/3, 2/3, 0, 1; 0 and 1; the example's 0/50 and 40/50
-    sample (marks (drawn 1 2) 1) (one_mark 0x3fd5_5555_5555_5555) ∷
-    sample (point (drawn 1 2) 1) (point_at 0x3fd5_5555_5555_5555 0x3fd5_5555_5555_5555 0) ∷
-    sample (marks (drawn 2 1) 1) (one_mark 0x3fe5_5555_5555_5555) ∷
-    sample (marks (0 ∷ 1 ∷ 0 ∷ 1 ∷ 5 ∷ []) 0) (one_mark 0) ∷
-    sample (marks (0 ∷ 0 ∷ 0 ∷ 4 ∷ []) 0) (one_mark 0x3ff0_0000_0000_0000) ∷
-    sample (marks (drawn 1 2) 0) (two_marks 0 0x3ff0_0000_0000_0000) ∷
-    sample (point example 2) (point_at 0 0x3fe9_9999_9999_999a 0x3fe9_9999_9999_999a) ∷
-    -- {0, 2} over a choice and a draw: one mark, and open weight above 0
-    sample (marks (2 ∷ 0 ∷ 2 ∷ 0 ∷ 0 ∷ 1 ∷ 1 ∷ 1 ∷ 2 ∷ 3 ∷ 11 ∷ []) 1) (one_mark 0x3ff0_0000_0000_0000) ∷
-    sample (point (2 ∷ 0 ∷ 2 ∷ 0 ∷ 0 ∷ 1 ∷ 1 ∷ 1 ∷ 2 ∷ 3 ∷ 11 ∷ []) 1) (point_at 0x3ff0_0000_0000_0000 0x3ff0_0000_0000_0000 0x3ff0_0000_0000_0000) ∷
-    -- 1 out of 2^53; 27 for the next larger whole, and 12 before it
-    sample (marks (1 ∷ 0 ∷ 1 ∷ 2 ∷ 1 ∷ 4 ∷ 1 ∷ 6 ∷ 1 ∷ 65535 ∷ 1 ∷ 65535 ∷ 1 ∷ 65535 ∷ 1 ∷ 31 ∷ 4 ∷ 4 ∷ 8 ∷ 20 ∷ []) 4) (one_mark 0x3ca0_0000_0000_0000) ∷
-    sample (marks over_plotted 5) (marked (refused (Alone 27))) ∷
-    sample (point over_plotted 0) (pointed (refused (Alone 27))) ∷
-    sample (point over_plotted 6) (pointed (refused (Alone 12))) ∷
     []
