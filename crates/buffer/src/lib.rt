@@ -8,14 +8,10 @@ ghost use Rattle.buffer.specs.Text.{Put, decimal, after_blanks, line};
 pub fn put(out: &mut [u8], at: usize, text: &[u8]) -> usize
     requires { at + length text.now ≤ length out.old }
     ensures text { Put out.old at text.now out.new result }
-    ensures unchanged { text.now ≡ text.now }
 {
-    let mut i = 0;
-    while i < text.len() {
-        out[at + i] = text[i];
-        i += 1;
-    }
-    at + i
+    let end = at + text.len();
+    out[at..end].copy_from_slice(text);
+    end
 }
 
 // A blank and n in decimal: at most 21 bytes.
@@ -35,13 +31,10 @@ fn put_numbers(out: &mut [u8], at: usize, numbers: &[u64]) -> usize
     requires { at + 21 * length numbers.now ≤ length out.old }
     ensures text { Put out.old at (after_blanks numbers.now) out.new result }
     ensures end { result ≤ at + 21 * length numbers.now }
-    ensures unchanged { numbers.now ≡ numbers.now }
 {
     let mut end = at;
-    let mut i = 0;
-    while i < numbers.len() {
-        end = put_number(out, end, numbers[i]);
-        i += 1;
+    for &n in numbers {
+        end = put_number(out, end, n);
     }
     end
 }
@@ -51,8 +44,6 @@ pub fn put_line(out: &mut [u8], at: usize, name: &[u8], numbers: &[u64]) -> usiz
     requires { at + (length name.now + 21 * length numbers.now + 1) ≤ length out.old }
     ensures text { Put out.old at (line name.now numbers.now) out.new result }
     ensures end { result ≤ at + (length name.now + 21 * length numbers.now + 1) }
-    ensures name_unchanged { name.now ≡ name.now }
-    ensures numbers_unchanged { numbers.now ≡ numbers.now }
 {
     let first = put(out, at, name);
     let last = put_numbers(out, first, numbers);

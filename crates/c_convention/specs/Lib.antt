@@ -1,3 +1,2 @@
 -- What a C function returns and stores for an answer.
 pub mod Convention
-pub mod HandedOver

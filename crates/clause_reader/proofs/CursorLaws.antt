@@ -1,51 +1,61 @@
--- What is given at a place, by the tests that led there; the place some clauses on, one clause at a time, as a loop
--- takes it; and one clause more. Assumes nothing.
-use mathlib.Core.Path.{◌≡◌, refl, ap, ◌∙◌}
+-- What is given at a place; the place some clauses on, one clause at a time, as a loop takes it; and one clause more.
+-- Assumes nothing.
+use mathlib.Core.Path.{◌≡◌, refl, sym, ap, ◌∙◌}
 use mathlib.Core.List.{List}
-use mathlib.Core.Option.{none, some}
-use Prim.Native.Nat.{ℕ, zero, suc, ◌-◌, ◌≤◌, ◌<◌}
+use Rattle.std.specs.Prelude.{Option, None, Some, Ok}
+use Prim.Native.Nat.{ℕ, zero, suc, ◌+◌, ◌-◌, ◌≤◌, ◌<◌}
+use native.Mathlib.Nat.{sub-zero}
 use native.Mathlib.Omega.{arith}
-use borrow.Author.Tests.{lt-ltb, le-ltb, le-leb, lt-leb}
+use borrow.Author.Tests.{lt-ltb, le-ltb, le-leb}
 use Rattle.answer.specs.Answer.{Answer}
 use Rattle.words.specs.Words.{word_count}
 use Rattle.clause_words.specs.Clauses.{after_clause}
-use Rattle.clause_reader.specs.Cursor.{Place, given_clause, given_at, clause_file, past, advance_file}
+use Rattle.clause_reader.specs.declared.cursor.Place.{Place}
+use Rattle.clause_reader.specs.declared.cursor.Clause.{Clause}
+use Rattle.clause_reader.specs.Cursor.{given_clause, given_at, clause_file, past, advance_file}
 
 module _ (b : List ℕ) (p : Place) where
-  pub none_left : p.clauses ≤ p.number → given_at b p ≡ none
+  pub none_left : p.clauses ≤ p.number → given_at b p ≡ None
   unfolding given_at
   none_left h = simp (le-ltb _ _ h)
 
-module _ (b : List ℕ) (p : Place) (left : p.number < p.clauses) where
-  pub starts_late : word_count b ≤ p.word → given_at b p ≡ none
+  pub given_is : p.number < p.clauses → p.word < word_count b → after_clause b p.word ≤ word_count b → given_at b p ≡ Some (given_clause b p)
   unfolding given_at
-  starts_late h = simp (lt-ltb _ _ left, le-ltb _ _ h)
+  given_is left h h' = simp (lt-ltb _ _ left, lt-ltb _ _ h, le-leb _ _ h')
 
-  pub ends_late : p.word < word_count b → word_count b < after_clause b p.word → given_at b p ≡ none
-  unfolding given_at
-  ends_late h h' = simp (lt-ltb _ _ left, lt-ltb _ _ h, lt-leb _ _ h')
+pub advance_none : (b : List ℕ) (p : Answer Place) → advance_file b 0 p ≡ p
+unfolding advance_file
+advance_none b p = refl
 
-  pub given_is : p.word < word_count b → after_clause b p.word ≤ word_count b → given_at b p ≡ some (given_clause b p)
-  unfolding given_at
-  given_is h h' = simp (lt-ltb _ _ left, lt-ltb _ _ h, le-leb _ _ h')
+-- where the clause at hand does not move the place, none does
+pub advance_stays : (b : List ℕ) (p : Answer Place) → past (clause_file b p) p ≡ p → (left : ℕ) → advance_file b left p ≡ p
+unfolding advance_file
+advance_stays b p e zero = refl
+advance_stays b p e (suc left) = ap (advance_file b left) e ∙ advance_stays b p e left
 
-module _ (b : List ℕ) (p : Answer Place) where
-  pub advance_step : (left : ℕ) → 0 < left → advance_file b left p ≡ advance_file b (left - 1) (past (clause_file b p) p)
-  unfolding advance_file
-  advance_step left h = let e : left ≡ suc (left - 1) = omega arith in rw (ap (λ (n : ℕ). advance_file b n p) e)
+-- a loop has come i of `count` clauses on, to the place p
+module _ (b : List ℕ) (count : ℕ) (first : Answer Place) where
+  pub all_left : advance_file b (count - 0) first ≡ advance_file b count first
+  all_left = rw sub-zero
 
-  pub advance_over : (left : ℕ) → left ≤ 0 → advance_file b left p ≡ p
-  unfolding advance_file
-  advance_over left h = let e : left ≡ 0 = omega arith in rw e
+  module _ (i : ℕ) (p : Answer Place) (left : advance_file b (count - i) p ≡ advance_file b count first) where
+    pub advanced : count ≤ i → p ≡ advance_file b count first
+    unfolding advance_file
+    advanced h = let e : count - i ≡ 0 = omega arith in rw e at left
 
-  -- where the clause at hand does not move the place, none does
-  pub advance_stays : past (clause_file b p) p ≡ p → (left : ℕ) → advance_file b left p ≡ p
-  unfolding advance_file
-  advance_stays e zero = refl
-  advance_stays e (suc left) = ap (advance_file b left) e ∙ advance_stays e left
+    pub advanced_on : (c : Clause) → i < count → Ok (Some c) ≡ clause_file b p → advance_file b (count - (i + 1)) (Ok c.next) ≡ advance_file b count first
+    unfolding advance_file
+    advanced_on c here e =
+        let more : count - i ≡ suc (count - (i + 1)) = omega arith in
+        ap (λ (s : Answer (Option Clause)). advance_file b (count - (i + 1)) (past s p)) e ∙ rw more at left
+
+    pub stays_here : past (clause_file b p) p ≡ p → p ≡ advance_file b count first
+    stays_here e = sym (advance_stays b p e (count - i)) ∙ left
 
 -- one clause more is one step more
 pub advance_suc : (b : List ℕ) (j : ℕ) (p : Answer Place) → advance_file b (suc j) p ≡ past (clause_file b (advance_file b j p)) (advance_file b j p)
 unfolding advance_file
 advance_suc b zero p = refl
 advance_suc b (suc j) p = advance_suc b j (past (clause_file b p) p)
+
+pub ruleset advance_steps = (all_left, advanced, advanced_on, stays_here)

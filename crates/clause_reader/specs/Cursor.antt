@@ -1,32 +1,16 @@
 -- The clause reader over bytes: where it starts, what it gives at a place, and where it goes from there. Assumes
 -- nothing of the file or the place.
-use Rattle.std.specs.Prelude.{ℕ, zero, suc, ◌+◌, Bool, cond, ◌&&◌, List, [], leb, ltb}
-use Rattle.std.proofs.Math.Option.{Option, none, some}
-use Rattle.answer.specs.Answer.{Answer, refused, answer, and_then}
+use Rattle.std.specs.Prelude.{ℕ, zero, suc, ◌+◌, Bool, cond, ◌&&◌, List, [], leb, ltb, Option, None, Some, Err, Ok}
+use Rattle.answer.specs.Answer.{Answer, and_then}
 use Rattle.words.specs.Words.{word, word_count, part}
 use Rattle.clause_words.specs.Clauses.{after_clause}
 use Rattle.rule_file.specs.Reader.{read_file}
-use Rattle.clause_reader.specs.declared.cursor.Cursor.{Cursor}
-use Rattle.clause_reader.specs.declared.cursor.Cursor.TheVariants as cursor
-use Rattle.clause_reader.specs.declared.cursor.Step.{Step}
-use Rattle.clause_reader.specs.declared.cursor.Step.TheVariants as step
-
--- a place in a file: the word where the next clause stands, its number, and how many clauses the file has
-pub record Place : Type 0 where
-  pub word : ℕ
-  pub number : ℕ
-  pub clauses : ℕ
-
--- a clause that is given: its number, the word where its literals begin, how many they are, and the place after it
-pub record Clause : Type 0 where
-  pub number : ℕ
-  pub start : ℕ
-  pub length : ℕ
-  pub next : Answer Place
+use Rattle.clause_reader.specs.declared.cursor.Place.{Place}
+use Rattle.clause_reader.specs.declared.cursor.Clause.{Clause}
 
 -- clause 0 of an accepted file, at word 0
 abbrev pub start_file : List ℕ → Answer Place
-start_file b = and_then (read_file b) (λ h. answer (record { word = 0; number = 0; clauses = h.clauses }))
+start_file b = and_then (read_file b) (λ h. Ok (record { word = 0; number = 0; clauses = h.clauses }))
 
 -- whether the clause at word i ends within the file
 abbrev pub within_file : List ℕ → ℕ → Bool
@@ -38,21 +22,21 @@ given_clause b p = record {
   number = p.number;
   start = p.word + 1;
   length = word b p.word;
-  next = answer (record { word = after_clause b p.word; number = p.number + 1; clauses = p.clauses });
+  next = record { word = after_clause b p.word; number = p.number + 1; clauses = p.clauses };
 }
 
 -- it is given; none where no clause is left, or where it would leave the file
 unfoldable pub given_at : List ℕ → Place → Option Clause
-given_at b p = cond (ltb p.number p.clauses && within_file b p.word) (some (given_clause b p)) none
+given_at b p = cond (ltb p.number p.clauses && within_file b p.word) (Some (given_clause b p)) None
 
 abbrev pub clause_file : List ℕ → Answer Place → Answer (Option Clause)
-clause_file b p = and_then p (λ q. answer (given_at b q))
+clause_file b p = and_then p (λ q. Ok (given_at b q))
 
 -- the place p after what is given there: it does not move where no clause is given
 abbrev pub past : Answer (Option Clause) → Answer Place → Answer Place
-past (refused r) p = p
-past (answer none) p = p
-past (answer (some c)) p = c.next
+past (Err r) p = p
+past (Ok None) p = p
+past (Ok (Some c)) p = Ok c.next
 
 -- the place `count` clauses on
 unfoldable pub advance_file : List ℕ → ℕ → Answer Place → Answer Place
@@ -65,16 +49,6 @@ nth_file b j = clause_file b (advance_file b j (start_file b))
 
 -- the bytes of the literals of the clause that is given; none where none is
 abbrev pub clause_bytes : List ℕ → Answer (Option Clause) → List ℕ
-clause_bytes b (refused r) = []
-clause_bytes b (answer none) = []
-clause_bytes b (answer (some c)) = part b c.start c.length
-
--- the documents' refusal or values for each case of what the code answers
-abbrev pub placing : Cursor → Answer Place
-placing (cursor.Refused r) = refused r
-placing (cursor.At i j m) = answer (record { word = i; number = j; clauses = m })
-
-abbrev pub stepping : Step → Answer (Option Clause)
-stepping (step.Refused r) = refused r
-stepping (step.Clause j i k next) = answer (some (record { number = j; start = i; length = k; next = placing next }))
-stepping step.Done = answer none
+clause_bytes b (Err r) = []
+clause_bytes b (Ok None) = []
+clause_bytes b (Ok (Some c)) = part b c.start c.length

@@ -1,11 +1,13 @@
--- Clauses: what the test that a clause fits says; what a walk without fault says of each clause; literals in range,
--- variables that stand twice, and variables that rise, one literal at a time. Elements and walks in general are in
--- WalkLaws, sets of bits in BitSetLaws, the clauses of an accepted file in FileLaws. Assumes nothing.
+-- Clauses: what the test that a clause fits says; what a walk without fault says of each clause; the words of a run that
+-- are left; literals in range, variables that stand twice, and variables that rise, one literal at a time. Elements and
+-- walks in general are in WalkLaws, sets of bits in BitSetLaws, the clauses of an accepted file in FileLaws. Assumes
+-- nothing.
 use mathlib.Core.Path.{◌≡◌, refl, sym, ap, ap₂, ◌∙◌}
 use mathlib.Core.Bool.{Bool, true, false, ◌||◌, or-false, or_assoc, or_comm}
 use mathlib.Core.List.{List, [], ◌∷◌}
-use mathlib.Core.Option.{none}
-use Prim.Native.Nat.{ℕ, ◌+◌, ◌*◌, ◌≤◌, ◌<◌}
+use Rattle.std.specs.Prelude.{None}
+use Prim.Native.Nat.{ℕ, zero, suc, ◌+◌, ◌-◌, ◌*◌, ◌≤◌, ◌<◌}
+use native.Mathlib.Nat.{le_trans}
 use native.Mathlib.Omega.{arith}
 use lib.Dec.{leb, ltb, eqb}
 use lib.ListN.{get_or}
@@ -16,10 +18,11 @@ use Rattle.formula.proofs.Membership.{and_iff}
 use Rattle.bit_set.specs.BitSet.{has, including}
 use Rattle.bit_set.proofs.BitSetLaws.{has_none, has_including}
 use Rattle.limits.specs.Limits.{max_variables}
-use Rattle.words.specs.Words.{word}
-use Rattle.words.proofs.WalkLaws.{none_at, walked_at}
-use Rattle.clause_words.specs.Clauses.{after_clause, clause_at, clause_start, clauses_from, clause_fits, walk_clauses}
-use Rattle.clause_words.specs.declared.ClauseCheck.TheVariants.{OutOfRange, Repeats, IllFormed}
+use Rattle.std.specs.List.{list_any, range_with_len}
+use Rattle.words.specs.Walk.{elements, first}
+use Rattle.words.specs.Words.{word, word_count, next_word, words}
+use Rattle.words.proofs.WalkLaws.{elements_next, elements_passed, first_none, none_at, walked_at}
+use Rattle.clause_words.specs.Clauses.{ClausesWithin, EachClause, after_clause, clause_at, clause_start, clauses_from, clause_fits, walk_clauses}
 
 -- A clause that fits
 
@@ -41,23 +44,42 @@ module _ (b : List ℕ) (n end i : ℕ) where
       let (e₁, e₂) = (and_iff _ _).0 e₁₂ in
       record { starts = ltb-true _ _ e₁; ends = leb-true _ _ e₂; short = leb-true _ _ e₃ }
 
-  pub fits_false : (Fits b n end i → ⊥) → clause_fits b n end i ≡ false
-  fits_false f = go (clause_fits b n end i) refl
-    where
-      go : (t : Bool) → clause_fits b n end i ≡ t → clause_fits b n end i ≡ false
-      go false e = e
-      go true e = absurd (f (true_fits e))
-
 -- The clauses of a walk
 
 module _ (b : List ℕ) where
-  pub walked_clause : (n end count : ℕ) → walk_clauses b n end count 0 ≡ none → (j : ℕ) → j < count → Fits b n end (clause_start b j)
+  pub walked_clause : (n end count : ℕ) → walk_clauses b n end count 0 ≡ None → (j : ℕ) → j < count → Fits b n end (clause_start b j)
   walked_clause n end count w j h =
       true_fits b n end (clause_start b j) (walked_at (after_clause b) (clause_fits b n end) end count 0 w j h)
+
+  -- and so each clause stands within the file
+  pub walked_within : (n end count : ℕ) → end ≤ word_count b → walk_clauses b n end count 0 ≡ None → ClausesWithin b count
+  walked_within n end count h w = record { each = λ j l. le_trans (walked_clause n end count w j l).ends h }
 
   -- where a check fails on no clause, it does not on clause j
   pub clause_passes : (f : List ℕ → Bool) (count j : ℕ) → j < count → some_of f (clauses_from b count 0) ≡ false → f (clause_at b (clause_start b j)) ≡ false
   clause_passes f count j h e = none_at (after_clause b) (clause_at b) f count 0 j h e
+
+  -- where no clause has a literal out of range, each is in range
+  pub clauses_in_range : (n count : ℕ) → first (out_of_range n) (clauses_from b count 0) ≡ None → EachClause b count (λ i k. out_of_range n (words b i k) ≡ false)
+  clauses_in_range n count e j h = clause_passes (out_of_range n) count j h (first_none (out_of_range n) _ e)
+
+-- A test over the words of a run
+
+pub some_of_words : (f : ℕ → Bool) (b : List ℕ) (k i : ℕ) → list_any (λ at. f (word b at)) (range_with_len i k) ≡ some_of f (words b i k)
+unfolding some_of elements
+some_of_words f b zero i = refl
+some_of_words f b (suc k) i = ap (f (word b i) ||◌) (some_of_words f b k (i + 1))
+
+-- The words of a run that a loop has left, which stand from word `at` to before word `end`
+
+pub words_left : (b : List ℕ) (i k : ℕ) → words b i (i + k - i) ≡ words b i k
+words_left b i k = let e : i + k - i ≡ k = omega arith in ap (words b i) e
+
+pub words_next : (b : List ℕ) (end at : ℕ) → at < end → words b at (end - at) ≡ word b at ∷ words b (at + 1) (end - (at + 1))
+words_next b end at = elements_next next_word (word b) end at at
+
+pub words_over : (b : List ℕ) (end at : ℕ) → end ≤ at → words b at (end - at) ≡ []
+words_over b end at = elements_passed next_word (word b) end at at
 
 -- Literals in range
 
@@ -176,10 +198,3 @@ module _ (n least : ℕ) {l : ℕ} {ls ys : List ℕ} (e : ys ≡ l ∷ ls) wher
 pub ill_formed_done : (n least : ℕ) {ys : List ℕ} → ys ≡ [] → ill_formed_after n least ys ≡ false
 unfolding ill_formed_after ill_formed out_of_range unordered some_of
 ill_formed_done n least e = rw e
-
--- 7 is not one of the other checks
-pub range_not_repeats : OutOfRange ≡ Repeats → ⊥
-range_not_repeats e = let z : ◌≡◌ {A = ℕ} 0 1 = cc in omega arith
-
-pub ill_formed_not_repeats : IllFormed ≡ Repeats → ⊥
-ill_formed_not_repeats e = let z : ◌≡◌ {A = ℕ} 0 1 = cc in omega arith

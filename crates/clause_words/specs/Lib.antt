@@ -1,3 +1,2 @@
--- Clauses as they stand in a file, and the checks over them.
+-- Clauses as they stand in a file.
 pub mod Clauses
-pub mod ClauseChecks

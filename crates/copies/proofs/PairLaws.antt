@@ -1,45 +1,59 @@
--- The words at two places of a file compared: one pair at a time, as a loop takes them, where k words are left at both;
--- and different numbers of words. Assumes nothing.
-use mathlib.Core.Path.{◌≡◌, refl, sym, ap, ap₂, ◌∙◌}
-use mathlib.Core.Bool.{Bool, true, false, ◌&&◌}
+-- The search for an earlier clause that equals one, a clause at a time: none is passed; one more is; one is found, or
+-- none is left. Then the words at two places compared: by each, and different numbers of them. Assumes nothing.
+use mathlib.Core.Path.{◌≡◌, refl, sym, ap, ◌∙◌}
+use mathlib.Core.Bool.{Bool, true, false}
 use mathlib.Core.List.{List}
 use Prim.Native.Nat.{ℕ, ◌+◌, ◌-◌, ◌≤◌, ◌<◌}
-use lib.Dec.{eqb}
-use lib.ListN.{length}
-use borrow.Author.Tests.{eq-eqb, ne_eqb}
-use Rattle.formula.specs.Formula.{equal}
+use native.Mathlib.Nat.{sub-zero}
+use lib.ListN.{length, get_or}
+use lib.Seq.{ext_get_or}
+use Rattle.std.proofs.lemmas.Bool.{false_from_ne_true}
+use Rattle.formula.specs.Formula.{some_of, equal}
+use Rattle.formula.proofs.SomeLaws.{some_here, some_later, some_over}
 use Rattle.formula.proofs.OrderLaws.{equal_iff}
-use Rattle.words.specs.Words.{word, next_word, words}
-use Rattle.words.proofs.WalkLaws.{elements_length, elements_step, elements_over}
+use Rattle.words.specs.Words.{word, words}
+use Rattle.words.proofs.WalkLaws.{start_zero, start_suc, elements_length, elements_next, elements_passed}
+use Rattle.words.proofs.WordsLaws.{stand_word, words_stand}
+use Rattle.clause_words.specs.Clauses.{after_clause, clause_at, clauses_from}
 
-module _ (b : List ℕ) (i j : ℕ) where
-  module _ (k : ℕ) (h : 0 < k) where
-    abbrev rest_equal : Bool
-    rest_equal = equal (words b (i + 1) (k - 1)) (words b (j + 1) (k - 1))
+-- whether some clause equals the one at word `other`
+abbrev pub some_equal : List ℕ → ℕ → List (List ℕ) → Bool
+some_equal b other = some_of (λ c. equal c (clause_at b other))
 
-    equal_step : equal (words b i k) (words b j k) ≡ eqb (word b i) (word b j) && rest_equal
-    unfolding equal
-    equal_step = ap₂ equal (elements_step next_word (word b) k i h) (elements_step next_word (word b) k j h)
+module _ (b : List ℕ) (count other : ℕ) where
+  pub all_left : some_equal b other (clauses_from b (count - 0) 0) ≡ some_equal b other (clauses_from b count 0)
+  all_left = rw sub-zero
 
-    -- the words at hand differ
-    pub equal_differs : ¬ (word b i ≡ word b j) → equal (words b i k) (words b j k) ≡ false
-    equal_differs n = equal_step ∙ ap (◌&& rest_equal) (ne_eqb (word b i) (word b j) n)
+  module _ (j i : ℕ) (left : some_equal b other (clauses_from b (count - j) i) ≡ some_equal b other (clauses_from b count 0)) where
+    pub none_equal : count ≤ j → some_equal b other (clauses_from b count 0) ≡ false
+    none_equal h = sym left ∙ some_over _ (elements_passed (after_clause b) (clause_at b) count j i h)
 
-    -- they do not
-    pub equal_later : word b i ≡ word b j → rest_equal ≡ equal (words b i k) (words b j k)
-    equal_later e = sym (equal_step ∙ ap (◌&& rest_equal) (eq-eqb (word b i) (word b j) e))
+    module _ (here : j < count) where
+      pub equal_found : equal (clause_at b i) (clause_at b other) ≡ true → some_equal b other (clauses_from b count 0) ≡ true
+      equal_found t = sym left ∙ some_here _ (elements_next (after_clause b) (clause_at b) count j i here) t
 
-  -- none is left
-  pub equal_over : (k : ℕ) → k ≤ 0 → equal (words b i k) (words b j k) ≡ true
-  unfolding equal
-  equal_over k h = ap₂ equal (elements_over next_word (word b) k i h) (elements_over next_word (word b) k j h)
+      pub passed_on : equal (clause_at b i) (clause_at b other) ≡ false
+          → some_equal b other (clauses_from b (count - (j + 1)) (after_clause b i)) ≡ some_equal b other (clauses_from b count 0)
+      passed_on t = some_later (λ c. equal c (clause_at b other)) (elements_next (after_clause b) (clause_at b) count j i here) t ∙ left
 
-  -- k words here, and l there
-  pub lengths_differ : (k l : ℕ) → ¬ (l ≡ k) → equal (words b i k) (words b j l) ≡ false
-  lengths_differ k l n = go (equal (words b i k) (words b j l)) refl
-    where
-      go : (t : Bool) → equal (words b i k) (words b j l) ≡ t → equal (words b i k) (words b j l) ≡ false
-      go false e = e
-      go true e =
-          let same = ap length ((equal_iff (words b i k) (words b j l)).0 e) in
-          absurd (n (sym (elements_length next_word (word b) l j) ∙ sym same ∙ elements_length next_word (word b) k i))
+pub ruleset search_steps = (start_zero, start_suc, all_left, equal_found, passed_on, none_equal)
+
+module _ (b : List ℕ) (i j k : ℕ) where
+  word_at : (n t : ℕ) → t < k → get_or (words b n k) t 0 ≡ word b (n + t)
+  word_at n t h = sym (stand_word b n (words b n k) (words_stand b n k) t (n + t) (rw elements_length h) refl)
+
+  -- one word differs, or none does
+  pub one_differs : (t : ℕ) → t < k → ¬ (word b (i + t) ≡ word b (j + t)) → equal (words b i k) (words b j k) ≡ false
+  one_differs t h n =
+      false_from_ne_true _ (λ e. n (sym (word_at i t h) ∙ ap (λ ws. get_or ws t 0) ((equal_iff _ _).0 e) ∙ word_at j t h))
+
+  pub none_differs : ((t : ℕ) → t < k → word b (i + t) ≡ word b (j + t)) → equal (words b i k) (words b j k) ≡ true
+  none_differs same =
+      (equal_iff (words b i k) (words b j k)).1 (ext_get_or 0 _ _ (simp elements_length) (λ t h.
+      let under : t < k = rw elements_length at h in
+      word_at i t under ∙ same t under ∙ sym (word_at j t under)))
+
+  -- k words and l
+  pub lengths_differ : (l : ℕ) → ¬ (l ≡ k) → equal (words b i k) (words b j l) ≡ false
+  lengths_differ l n =
+      false_from_ne_true _ (λ e. n (simp elements_length at (sym (ap length ((equal_iff (words b i k) (words b j l)).0 e)))))

@@ -10,8 +10,7 @@ use Prim.Native.Nat.{ℕ, ◌+◌, ◌-◌, ◌≤◌, ◌<◌}
 use native.Mathlib.Numerals.{add-one}
 use native.Mathlib.Omega.{arith}
 use lib.Dec.{eqb}
-use lib.ListN.{take, set, replicate}
-use lib.Seq.{take-suc-set}
+use lib.ListN.{length, length-map}
 use borrow.Author.Tests.{eqb-true, eq-eqb}
 use Rattle.formula.specs.Formula.{some_of, member, out_of_range, unordered, ill_formed, rising, equal}
 use Rattle.formula.specs.Nodes.{Every}
@@ -21,14 +20,11 @@ use Rattle.formula.proofs.OrderLaws.{ordered_ascends, equal_iff}
 use Rattle.bit_set.specs.BitSet.{mask}
 use Rattle.bit_set.proofs.BitSetLaws.{same_mask_iff}
 use Rattle.bit_set.proofs.MemberLaws.{same_set_iff}
-use Rattle.limits.specs.Limits.{max_clauses}
 use Rattle.words.specs.Walk.{elements}
-use Rattle.words.proofs.WalkLaws.{elements_add, elements_last}
+use Rattle.words.proofs.WalkLaws.{elements_length, elements_add, elements_last}
 use Rattle.clause_words.specs.Clauses.{after_clause, clause_at, clause_start, clauses_from}
 use Rattle.clause_words.proofs.ClauseLaws.{clause_passes}
 use Rattle.copies.specs.Copies.{InOrder}
-use Rattle.copies.specs.Chains.{max_chains, Chained}
-use Rattle.copies.proofs.ChainLaws.{none_chained}
 
 -- a test that tells the same sets apart
 by_sets : (same : List ℕ → List ℕ → Bool) (c : List ℕ) (φ : List (List ℕ)) → Every (λ d. (mask d ≡ mask c) ↔ (same d c ≡ true)) φ
@@ -74,8 +70,11 @@ module _ {b : List ℕ} {n count : ℕ} (o : InOrder b n count) where
     pub in_range : out_of_range n (clause_at b (clause_start b j)) ≡ false
     in_range = parts_are.0
 
-    pub in_order : unordered (clause_at b (clause_start b j)) ≡ false
-    in_order = parts_are.1
+    -- it has a copy among those before it where one of their sets is its set
+    pub copy_by_sets : (i : ℕ) → i ≡ clause_start b j
+        → member (mask (clause_at b i)) (map mask (clauses_from b j 0)) ≡ some_of (λ c. equal c (clause_at b i)) (clauses_from b j 0)
+    copy_by_sets i e =
+        rw e (ordered_by_sets (clause_at b (clause_start b j)) (clauses_from b j 0) parts_are.1 (first_in_order j (omega arith)))
 
 -- The first clauses
 
@@ -83,22 +82,15 @@ module _ {b : List ℕ} {n count : ℕ} (o : InOrder b n count) where
 pub clauses_last : (b : List ℕ) (j i : ℕ) → i ≡ clause_start b j → clauses_from b (j + 1) 0 ≡ clauses_from b j 0 ++ (clause_at b i ∷ [])
 clauses_last b j i e = rw (e, add-one j) (elements_last (after_clause b) (clause_at b) j 0)
 
--- the sets of the first j clauses are taken in
-pub record TakenIn (b : List ℕ) (j : ℕ) (sets links heads : List ℕ) : Type 0 where
-  pub chained : Chained j sets links heads
-  pub sets_are : take j sets ≡ map mask (clauses_from b j 0)
+pub masks_last : (b : List ℕ) (j i : ℕ) → i ≡ clause_start b j
+    → map mask (clauses_from b (j + 1) 0) ≡ map mask (clauses_from b j 0) ++ (mask (clause_at b i) ∷ [])
+masks_last b j i e = ap (map mask) (clauses_last b j i e) ∙ map-append mask (clauses_from b j 0) (clause_at b i ∷ [])
 
-pub none_taken : (b : List ℕ) → TakenIn b 0 (replicate max_clauses 0) (replicate max_clauses 0) (replicate max_chains 0)
+pub masks_length : (b : List ℕ) (j : ℕ) → length (map mask (clauses_from b j 0)) ≡ j
+masks_length b j = length-map (clauses_from b j 0) mask ∙ elements_length (after_clause b) (clause_at b) j 0
+
+pub no_masks : (b : List ℕ) → map mask (clauses_from b 0 0) ≡ []
 unfolding elements
-none_taken b = record { chained = none_chained; sets_are = refl }
+no_masks b = refl
 
-pub one_taken : {b : List ℕ} {j : ℕ} {sets links heads : List ℕ} → TakenIn b j sets links heads → j < max_clauses
-    → (i : ℕ) → i ≡ clause_start b j → {sets' links' heads' : List ℕ} → sets' ≡ set sets j (mask (clause_at b i)) → Chained (j + 1) sets' links' heads'
-    → TakenIn b (j + 1) sets' links' heads'
-one_taken {b} {j} {sets} taken few i starts is chained = record {
-  chained = chained;
-  sets_are = rw (is, add-one j) (take-suc-set sets j (mask (clause_at b i)) (omega (arith, taken.chained.linked.room)))
-      ∙ ap (◌++ (mask (clause_at b i) ∷ [])) taken.sets_are
-      ∙ sym (map-append mask (clauses_from b j 0) (clause_at b i ∷ []))
-      ∙ ap (map mask) (sym (clauses_last b j i starts));
-}
+pub ruleset set_steps = (in_range, copy_by_sets, no_masks, masks_length, masks_last)

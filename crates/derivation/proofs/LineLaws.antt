@@ -4,7 +4,7 @@
 use mathlib.Core.Path.{◌≡◌, refl, ap, ◌∙◌}
 use mathlib.Core.Bool.{Bool, true, false, cond, ◌&&◌, ◌||◌}
 use mathlib.Core.List.{List}
-use mathlib.Core.Option.{none}
+use Rattle.std.specs.Prelude.{None}
 use Prim.Native.Nat.{ℕ, ◌+◌, ◌≤◌, ◌<◌}
 use native.Mathlib.Omega.{arith}
 use lib.ListN.{length}
@@ -80,7 +80,7 @@ module _ (d : List ℕ) where
   derived_at k h = ap derived (line_is k h) ∙ derived_is d (line_start d k)
 
   -- what a walk without fault says of each line
-  pub line_within : (n end count : ℕ) → walk_lines d n end count 0 ≡ none → (k : ℕ) → k < count → after_line d (line_start d k) ≤ end
+  pub line_within : (n end count : ℕ) → walk_lines d n end count 0 ≡ None → (k : ℕ) → k < count → after_line d (line_start d k) ≤ end
   line_within n end count w k h =
       line_ends d n end (line_start d k) (walked_at (after_line d) (line_fits d n end) end count 0 w k h)
 

@@ -1,10 +1,10 @@
 -- Exactness and soundness of the check, over the bytes of the two files, and kind 1's test as 004 states R.2's premise.
 -- The definitions to read are in specs/Derives, and in resolution's Claims. Assumes nothing.
+use Rattle.std.specs.Prelude.{Ok, Option, None, Some}
 use mathlib.Core.Path.{◌≡◌, sym, ap}
 use mathlib.Core.Logic.{◌↔◌}
 use mathlib.Core.Bool.{true}
 use mathlib.Core.List.{List}
-use mathlib.Core.Option.{Option, none, some}
 use Prim.Native.Nat.{ℕ, ◌<◌}
 use lib.ListN.{length}
 use Rattle.formula.specs.Formula.{unordered}
@@ -15,7 +15,6 @@ use Rattle.resolution.proofs.Check.{judge_lines_iff, closing_iff}
 use Rattle.resolution.proofs.Implied.{blocking_iff_implied}
 use Rattle.resolution.proofs.Derivations.{ordered_non_tautological, accepted_sound, closing_is_figure}
 use Rattle.limits.specs.Limits.{max_bytes, derivation_trailer}
-use Rattle.answer.specs.Answer.{answer}
 use Rattle.answer.proofs.AnswerLaws.{passed, passed_at, passed_then}
 use Rattle.words.proofs.WalkLaws.{first_none, none_first_place}
 use Rattle.words.proofs.WordsLaws.{right_length}
@@ -34,11 +33,11 @@ use Rattle.derivation.proofs.CheckLaws.{check_14, passed_line, passed_closing}
 
 module _ (b d : List ℕ) (c : Closing) where
   -- what an answer has passed: the reader's checks, 13 to 16, 17 to 21
-  rule_answered : check_file b d ≡ answer c → Accepted b × (check_from_13 b d ≡ answer c)
+  rule_answered : check_file b d ≡ Ok c → Accepted b × (check_from_13 b d ≡ Ok c)
   unfolding check_file
   rule_answered e = let (h, read, rest) = passed_then (read_file b) (λ _. check_from_13 b d) c e in ((answered b h read).0, rest)
 
-  structure_answered : check_from_13 b d ≡ answer c → WellFormed (variable_count b) d × (check_from_17 b d ≡ answer c)
+  structure_answered : check_from_13 b d ≡ Ok c → WellFormed (variable_count b) d × (check_from_17 b d ≡ Ok c)
   unfolding check_from_13 check_from_15
   structure_answered e₁₃ =
       let (p₁₃, e₁₄) = passed _ _ _ c e₁₃ in
@@ -57,15 +56,15 @@ module _ (b d : List ℕ) (c : Closing) where
   abbrev closing : Option ℕ
   closing = closing_value (clauses b) (lines d) (closing_reference d)
 
-  lines_answered : check_from_17 b d ≡ answer c
-      → (judge_lines (clauses b) (prefix b) (lines d) ≡ none) × (closing ≡ some c.value) × (c.whole ≡ whole b)
+  lines_answered : check_from_17 b d ≡ Ok c
+      → (judge_lines (clauses b) (prefix b) (lines d) ≡ None) × (closing ≡ Some c.value) × (c.whole ≡ whole b)
   unfolding check_from_17 check_from_21
   lines_answered e₁₇ =
       let (p₁₇, e₂₁) = passed_line (judge_lines (clauses b) (prefix b) (lines d)) (check_from_21 b d) c e₁₇ in
       let (closes, out) = passed_closing closing (whole b) c e₂₁ in
       (p₁₇, closes, out)
 
-  accepted_derives : check_file b d ≡ answer c → Derives b d c
+  accepted_derives : check_file b d ≡ Ok c → Derives b d c
   accepted_derives e =
       let (accepted, e₁₃) = rule_answered e in
       let (well_formed, e₁₇) = structure_answered e₁₃ in
@@ -78,7 +77,7 @@ module _ (b d : List ℕ) (c : Closing) where
         out_of = out;
       }
 
-  derives_accepted : Derives b d c → check_file b d ≡ answer c
+  derives_accepted : Derives b d c → check_file b d ≡ Ok c
   unfolding check_file check_from_13 check_from_15 check_from_17 check_from_21
   derives_accepted v =
       let w = v.well_formed in
@@ -92,14 +91,14 @@ module _ (b d : List ℕ) (c : Closing) where
         (judge_lines_iff (clauses b) (prefix b) (lines d)).1 (λ k h. v.follow k (rw (lines_length d) at h)),
         (closing_iff (clauses b) (lines d) (closing_reference d) c.value).1 (rw (lines_length d) v.closes),
       )
-      (λ j. answer (record { value = c.value; whole = sym v.out_of j }))
+      (λ j. Ok (record { value = c.value; whole = sym v.out_of j }))
 
   -- Exactness: the check accepts with c exactly where the derivation closes with c by the rules
-  pub accepted_iff : (check_file b d ≡ answer c) ↔ Derives b d c
+  pub accepted_iff : (check_file b d ≡ Ok c) ↔ Derives b d c
   accepted_iff = (accepted_derives, derives_accepted)
 
   -- Soundness, 004's Corollary 3.2: the closing value is the figure, out of the whole
-  pub accepted_is_figure : check_file b d ≡ answer c → c ≡ closing_figure b
+  pub accepted_is_figure : check_file b d ≡ Ok c → c ≡ closing_figure b
   accepted_is_figure e =
       let v = accepted_derives e in
       let (judged, closes, out) = lines_answered (structure_answered (rule_answered e).1).1 in
@@ -107,7 +106,7 @@ module _ (b d : List ℕ) (c : Closing) where
       λ j. record { value = sym is j; whole = out j }
 
   -- 004's Lemma 3.1 for each line
-  pub accepted_line_sound : check_file b d ≡ answer c → (k : ℕ) → k < line_count d → Sound (clauses b) (prefix b) (line_clause d k)
+  pub accepted_line_sound : check_file b d ≡ Ok c → (k : ℕ) → k < line_count d → Sound (clauses b) (prefix b) (line_clause d k)
   accepted_line_sound e k h =
       let v = accepted_derives e in
       let (judged, closes, out) = lines_answered (structure_answered (rule_answered e).1).1 in

@@ -1,6 +1,5 @@
 -- What checks 13 to 16 leave true of a derivation file: what judging its lines is given. Assumes nothing.
-use Rattle.std.specs.Prelude.{◌≡◌, false, List, ℕ, ◌≤◌}
-use Rattle.std.proofs.Math.Option.{none}
+use Rattle.std.specs.Prelude.{◌≡◌, false, List, ℕ, ◌≤◌, None}
 use Rattle.formula.specs.Formula.{some_of}
 use Rattle.limits.specs.Limits.{max_bytes, derivation_trailer, max_lines}
 use Rattle.words.specs.Words.{word_count, stated_count, Length}
@@ -16,10 +15,10 @@ pub record RightCounts (d : List ℕ) : Type 0 where
 -- what 13 to 16 leave, over a rule file of n variables
 pub record WellFormed (n : ℕ) (d : List ℕ) : Type 0 where
   pub right_counts : RightCounts d
-  pub walked : walk_lines d n (trailer_start d) (line_count d) 0 ≡ none
+  pub walked : walk_lines d n (trailer_start d) (line_count d) 0 ≡ None
   pub no_fault : some_of (line_fails n) (lines d) ≡ false
 
 -- check 15 has passed, whatever the number of variables
 pub record Walked (d : List ℕ) : Type 0 where
   pub variables : ℕ
-  pub walked : walk_lines d variables (trailer_start d) (line_count d) 0 ≡ none
+  pub walked : walk_lines d variables (trailer_start d) (line_count d) 0 ≡ None

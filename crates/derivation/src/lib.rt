@@ -2,7 +2,11 @@
 // figure in proofs/.
 #![tactic(auto)]
 
+ghost use Rattle.std.specs.Prelude.{◌≡◌};
+ghost use Rattle.derivation.specs.Check.{line_refusal};
+
 use answer::Refusal;
+use resolution::Fault;
 
 // The value of the empty clause that the derivation closes with, out of the whole.
 #[derive(Clone, Copy)]
@@ -11,11 +15,14 @@ pub struct Closing {
     pub whole: u64,
 }
 
-// The check's answer.
-#[derive(Clone, Copy)]
-pub enum Checking {
-    // The rule file's refusal, or the derivation's; 15 to 20 with the line.
-    Refused(Refusal),
-    // Each line follows and the derivation closes: the closing value and the whole.
-    Accepted(Closing),
+// The refusal of a line with a fault.
+pub fn line_refusal(fault: Fault, line: usize) -> Refusal
+    ensures { result ≡ line_refusal fault line }
+{
+    match fault {
+        Fault::NotBlocking => Refusal::NotBlocking(line),
+        Fault::MissingParent => Refusal::MissingParent(line),
+        Fault::NotResolvent => Refusal::NotResolvent(line),
+        Fault::WrongValue => Refusal::WrongValue(line),
+    }
 }

@@ -5,8 +5,11 @@ use Rattle.bit_set.specs.BitSet.{mask}
 use Rattle.resolution.specs.Resolution.{Annotated, derived, line_at}
 use Rattle.words.specs.Words.{word, part}
 use Rattle.clause_words.specs.Clauses.{clause_start}
-use Rattle.rule_file.specs.RuleFile.{clause_count, clauses}
+use Rattle.rule_file.specs.RuleFile.{clause_count, variable_count, clauses}
+use Rattle.rule_file.specs.Accepted.{Accepted}
 use Rattle.derivation.specs.DerivationFile.{line_count, size, line_start, lines}
+use Rattle.derivation.specs.WellFormed.{WellFormed}
+use Rattle.derivation_check.specs.Starts.{Starts}
 
 -- whether a reference names one of m clauses or one of the first k lines
 unfoldable pub is_named : ℕ → ℕ → ℕ → Bool
@@ -32,3 +35,9 @@ referent b d r = record { literals = referent_literals b d r; value = referent_v
 -- the table has, at each reference that names a clause or a line, the set of its literals
 abbrev pub Masks : List ℕ → List ℕ → List ℕ → Type 0
 Masks b d masks = (r : ℕ) → is_named (clause_count b) (line_count d) r ≡ true → get_or masks r 0 ≡ mask (referent_literals b d r)
+
+-- what looking up a clause or a line is given: both files have passed their checks, and the starts of both are kept
+pub record Located (b d starts : List ℕ) : Type 0 where
+  pub accepted : Accepted b
+  pub well_formed : WellFormed (variable_count b) d
+  pub starts_are : Starts b d starts

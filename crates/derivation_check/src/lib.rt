@@ -1,6 +1,7 @@
 // Checks a derivation over a rule file, line by line, with document 01's refusals in their order.
 #![tactic(auto)]
 
+mod files;
 mod judge;
 mod lines;
 mod parent;
@@ -8,143 +9,105 @@ mod parts;
 mod starts;
 
 ghost use Rattle.std.specs.Prelude.{◌≡◌};
-ghost use Rattle.rule_file.specs.Accepted.{Accepted, header as header_of};
-ghost use Rattle.derivation.specs.DerivationFile.{line_count};
-ghost use Rattle.derivation.specs.Check.{checking, check_file, check_from_13, check_from_15, check_from_17, check_from_21};
+ghost use Rattle.derivation.specs.Check.{check_file, check_from_13, check_from_15, check_from_17, check_from_21};
 ghost use Rattle.derivation.specs.WellFormed.{RightCounts};
-ghost use Rattle.derivation_check.specs.Starts.{Starts};
-ghost use Rattle.derivation_check.specs.Readable.{Readable};
 
-use crate::judge::judge_lines;
+use crate::files::{Files, Tables};
 use crate::lines::{literal_fault, walk_fault};
-use crate::parent::{is_named, keep_masks, parent, parent_value};
-use crate::starts::{REFERENCES, keep_clauses};
+use crate::parent::parent;
+use crate::starts::{REFERENCES, StartTable};
 use answer::Refusal;
-use derivation::{Checking, Closing};
+use derivation::Closing;
 use limits::{DERIVATION_TRAILER, MAX_BYTES, MAX_LINES};
 use resolution_sets::{OCCURRENCES, denominators, put_occurrences};
-use rule_file::{Header, Reading, read};
-use words::{Found, has_wrong_length, word};
-
-// What judging lines finds first.
-#[derive(Clone, Copy)]
-pub enum Fault {
-    // Each line follows.
-    Nothing,
-    // The number of the refusal, and the line.
-    At(u32, usize),
-}
+use rule_file::RuleFile;
+use words::{has_wrong_length, word};
 
 // Checks a derivation over a rule file, whatever the bytes of both are: the rule file's refusals, the derivation's, or
 // the closing value, which is the figure, and the whole. The files have one lifetime, since a parent is a part of
 // either of them.
-pub fn check<'a>(rule: &'a [u8], derivation: &'a [u8]) -> Checking
-    ensures answer { checking result ≡ check_file rule.now derivation.now }
-    ensures rule_unchanged { rule.now ≡ rule.now }
-    ensures derivation_unchanged { derivation.now ≡ derivation.now }
+#[tactic(auto, unfolding(derivation::specs::Check::check_file))]
+pub fn check<'a>(rule: &'a [u8], derivation: &'a [u8]) -> Result<Closing, Refusal>
+    ensures answer { result ≡ check_file rule.now derivation.now }
 {
-    match read(rule) {
-        Reading::Refused(refusal) => Checking::Refused(refusal),
-        Reading::Accepted(header) => check_counts(rule, derivation, header),
-    }
+    let file = RuleFile::open(rule)?;
+    check_counts(&file, derivation)
 }
 
 // 13 and on: the length and the counts.
-fn check_counts<'a>(rule: &'a [u8], derivation: &'a [u8], header: Header) -> Checking
-    requires accepted { Accepted rule.now }
-    requires header_value { header ≡ header_of rule.now }
-    ensures { checking result ≡ check_from_13 rule.now derivation.now }
+#[tactic(auto, unfolding(derivation::specs::Check::check_from_13, derivation::specs::Check::wrong_counts, words::specs::Words::wrong_length))]
+fn check_counts(file: &RuleFile<'_>, derivation: &[u8]) -> Result<Closing, Refusal>
+    ensures { result ≡ check_from_13 file.now.bytes.now derivation.now }
 {
     if has_wrong_length(derivation, DERIVATION_TRAILER, MAX_BYTES) {
-        return Checking::Refused(Refusal::Alone(13));
+        return Err(Refusal::DerivationLength);
     }
     let count = derivation.len() / 4;
-    if word(derivation, count - 1) != count {
-        return Checking::Refused(Refusal::Alone(14));
+    if word(derivation, count - 1) != count || MAX_LINES < word(derivation, count - 3) {
+        return Err(Refusal::DerivationCounts);
     }
-    if MAX_LINES < word(derivation, count - 3) {
-        return Checking::Refused(Refusal::Alone(14));
-    }
-    check_structure(rule, derivation, header)
+    check_structure(file, derivation)
 }
 
 // 15 and on: the walk over the lines, and their literals.
-fn check_structure<'a>(rule: &'a [u8], derivation: &'a [u8], header: Header) -> Checking
-    requires accepted { Accepted rule.now }
-    requires header_value { header ≡ header_of rule.now }
-    requires right_counts { RightCounts derivation.now }
-    ensures { checking result ≡ check_from_15 rule.now derivation.now }
+#[tactic(auto, using(crate::proofs::LineSteps::structure_steps), unfolding(derivation::specs::Check::check_from_15))]
+fn check_structure(file: &RuleFile<'_>, derivation: &[u8]) -> Result<Closing, Refusal>
+    requires { RightCounts derivation.now }
+    ensures { result ≡ check_from_15 file.now.bytes.now derivation.now }
 {
+    let n = file.header.variables;
     let end = derivation.len() / 4 - 3;
-    let count = word(derivation, end);
-    let mut starts: [u16; REFERENCES] = [0; REFERENCES];
-    if let Found::At(line) = walk_fault(derivation, header.variables, end, count, &mut starts) {
-        return Checking::Refused(Refusal::At(15, line));
+    let lines = word(derivation, end);
+    let mut starts = StartTable {
+        words: [0; REFERENCES],
+    };
+    if let Some(line) = walk_fault(derivation, n, end, lines, &mut starts) {
+        return Err(Refusal::LineExtent(line));
     }
-    if let Found::At(line) = literal_fault(derivation, header.variables, count, &starts) {
-        return Checking::Refused(Refusal::At(16, line));
+    if let Some(line) = literal_fault(derivation, n, lines, &starts) {
+        return Err(Refusal::LineLiterals(line));
     }
-    keep_clauses(rule, header, &mut starts);
-    check_lines(rule, derivation, header, count, &starts)
+    starts.keep_clauses(file);
+    check_lines(&Files {
+        rule: *file,
+        derivation,
+        lines,
+        starts: &starts,
+    })
 }
 
 // 17 and on: each line, then the closing reference.
-fn check_lines<'a>(
-    rule: &'a [u8],
-    derivation: &'a [u8],
-    header: Header,
-    count: usize,
-    starts: &[u16; REFERENCES],
-) -> Checking
-    requires readable { Readable rule.now derivation.now header }
-    requires count_value { count ≡ line_count derivation.now }
-    requires starts { Starts rule.now derivation.now starts.now }
-    ensures { checking result ≡ check_from_17 rule.now derivation.now }
+#[tactic(auto, using(crate::proofs::FilesLaws::both_files), unfolding(derivation::specs::Check::check_from_17))]
+fn check_lines(files: &Files<'_>) -> Result<Closing, Refusal>
+    ensures { result ≡ check_from_17 files.now.rule.bytes.now files.now.derivation.now }
 {
     let mut masks: [u64; REFERENCES] = [0; REFERENCES];
-    keep_masks(rule, derivation, header, count, starts, &mut masks);
+    files.keep_masks(&mut masks);
     let mut occurrences: [u64; OCCURRENCES] = [0; OCCURRENCES];
-    put_occurrences(&masks, 2, header.clauses, &mut occurrences);
-    let denominators = denominators(rule, header);
-    if let Fault::At(number, line) = judge_lines(
-        rule,
-        derivation,
-        header,
-        count,
-        starts,
-        &masks,
-        &occurrences,
-        &denominators,
-    ) {
-        return Checking::Refused(Refusal::At(number, line));
-    }
-    check_closing(rule, derivation, header, count, starts)
+    put_occurrences(&masks, 2, files.rule.header.clauses, &mut occurrences);
+    let tables = Tables {
+        files: *files,
+        masks: &masks,
+        occurrences: &occurrences,
+        denominators: &denominators(&files.rule),
+    };
+    tables.judge_lines()?;
+    check_closing(files)
 }
 
 // 21, or the value of the empty clause that the closing reference names.
-fn check_closing<'a>(
-    rule: &'a [u8],
-    derivation: &'a [u8],
-    header: Header,
-    count: usize,
-    starts: &[u16; REFERENCES],
-) -> Checking
-    requires readable { Readable rule.now derivation.now header }
-    requires count_value { count ≡ line_count derivation.now }
-    requires starts { Starts rule.now derivation.now starts.now }
-    ensures { checking result ≡ check_from_21 rule.now derivation.now }
+#[tactic(auto, using(crate::proofs::ClosingLaws::closing_steps), unfolding(derivation::specs::Check::check_from_21))]
+fn check_closing(files: &Files<'_>) -> Result<Closing, Refusal>
+    ensures { result ≡ check_from_21 files.now.rule.bytes.now files.now.derivation.now }
 {
-    let reference = word(derivation, derivation.len() / 4 - 2);
-    if !is_named(reference, header.clauses, count) {
-        return Checking::Refused(Refusal::Alone(21));
+    let reference = word(files.derivation, files.derivation.len() / 4 - 2);
+    if !files.is_named(reference, files.lines)
+        || !parent(files.rule.bytes, files.derivation, files.starts, reference).is_empty()
+    {
+        return Err(Refusal::WrongClosing);
     }
-    let c = parent(rule, derivation, starts, reference);
-    if 4 <= c.len() {
-        return Checking::Refused(Refusal::Alone(21));
-    }
-    let value = parent_value(derivation, starts, reference);
-    Checking::Accepted(Closing {
-        value,
-        whole: header.whole,
+    Ok(Closing {
+        value: files.parent_value(reference),
+        whole: files.rule.header.whole,
     })
 }

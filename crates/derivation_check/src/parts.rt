@@ -23,6 +23,7 @@ pub(crate) fn line_literals(derivation: &[u8], i: usize) -> &[u8]
 }
 
 // The value of the line at word i of the derivation, any number of 64 bits.
+#[tactic(auto, unfolding(derivation::specs::DerivationFile::value_at))]
 pub(crate) fn line_value(derivation: &[u8], i: usize) -> u64
     requires { value_start derivation.now i + 2 ≤ word_count derivation.now }
     ensures { result ≡ (clause_of derivation.now i).value }

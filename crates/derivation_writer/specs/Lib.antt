@@ -1,3 +1,4 @@
--- The reading of the writer's answer; and how it carries what it has written, which the code alone needs.
-pub mod Answer
+-- How the writer carries what it has written, which the code alone needs.
+pub mod Line
+pub mod Sets
 pub mod Writer

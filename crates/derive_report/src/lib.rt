@@ -5,7 +5,7 @@ ghost use Rattle.std.specs.Prelude.{◌≡◌};
 ghost use Rattle.buffer.specs.Text.{Begins};
 ghost use Rattle.derive_report.specs.DeriveReport.{derive_text};
 
-use derivation_writer::{Deriving, derive};
+use derivation_writer::derive;
 use limits::MAX_BYTES;
 use report::put_refusal;
 
@@ -13,10 +13,9 @@ use report::put_refusal;
 // length: the derivation, or the refusal's line. The writer is lent `out` itself.
 pub fn derivation_or_refusal(rule: &[u8], out: &mut [u8; MAX_BYTES]) -> usize
     ensures text { Begins out.old (derive_text rule.now) out.new result }
-    ensures unchanged { rule.now ≡ rule.now }
 {
     match derive(rule, out) {
-        Deriving::Refused(refusal) => put_refusal(out, 0, refusal),
-        Deriving::Answered(length) => length,
+        Err(refusal) => put_refusal(out, 0, refusal),
+        Ok(length) => length,
     }
 }

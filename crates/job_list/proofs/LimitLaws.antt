@@ -5,7 +5,7 @@ use mathlib.Core.Path.{◌≡◌, refl, sym, ap, ◌∙◌}
 use mathlib.Core.Bool.{Bool, true, false, not, ◌&&◌, and-false}
 use mathlib.Core.List.{List, [], ◌∷◌}
 use mathlib.Core.Logic.{◌≢◌}
-use mathlib.Core.Option.{none, some}
+use Rattle.std.specs.Prelude.{None, Some}
 use lib.ListN.{length, drop, get_or, drop_of_length-le}
 use lib.Seq.{drop-cons}
 use lib.Dec.{leb}
@@ -44,11 +44,11 @@ grows x [] = omega arith
 grows x (y ∷ ys) = omega (grows (10 * x + (y - 48)) ys, arith)
 
 -- what is no limit
-no_limit : (t : List ℕ) → is_limit t ≡ false → none ≡ limit_of t
+no_limit : (t : List ℕ) → is_limit t ≡ false → None ≡ limit_of t
 unfolding limit_of
 no_limit t e = sym (rw e)
 
-pub empty_limit : (t : List ℕ) → length t ≡ 0 → none ≡ limit_of t
+pub empty_limit : (t : List ℕ) → length t ≡ 0 → None ≡ limit_of t
 unfolding limit_of is_limit
 empty_limit [] e = refl
 empty_limit (x ∷ xs) e = absurd (omega (e, arith))
@@ -57,7 +57,7 @@ and_second : (a c : Bool) → a && false && c ≡ false
 and_second true c = refl
 and_second false c = refl
 
-pub not_digits : (t : List ℕ) → all_of is_digit t ≡ false → none ≡ limit_of t
+pub not_digits : (t : List ℕ) → all_of is_digit t ≡ false → None ≡ limit_of t
 unfolding is_limit
 not_digits t e = no_limit t (ap (λ d. not (is_empty t) && d && fits t) e ∙ and_second (not (is_empty t)) (fits t))
 
@@ -67,7 +67,7 @@ and_third true false = refl
 and_third false b = refl
 
 module _ {t : List ℕ} {i x : ℕ} (h : ReadTo t i x) (at : i < length t) where
-  pub no_digit : is_digit (get_or t i 0) ≡ false → none ≡ limit_of t
+  pub no_digit : is_digit (get_or t i 0) ≡ false → None ≡ limit_of t
   unfolding all_of
   no_digit e =
       not_digits t (sym h.digits ∙ ap (all_of is_digit) (drop-cons t i 0 at) ∙ ap (◌&& all_of is_digit (drop (suc i) t)) e)
@@ -77,7 +77,7 @@ module _ {t : List ℕ} {i x : ℕ} (h : ReadTo t i x) (at : i < length t) where
   unfolding decimal_value_from
   next = sym (ap (decimal_value_from x) (drop-cons t i 0 at)) ∙ h.value
 
-  pub too_large : 2 ^ 64 ≤ 10 * x + (get_or t i 0 - 48) → none ≡ limit_of t
+  pub too_large : 2 ^ 64 ≤ 10 * x + (get_or t i 0 - 48) → None ≡ limit_of t
   unfolding is_limit fits
   too_large e =
       let large : 2 ^ 64 ≤ decimal_value t = omega (next, grows (10 * x + (get_or t i 0 - 48)) (drop (suc i) t), e, arith) in
@@ -98,7 +98,7 @@ full_not_empty [] n = absurd (n refl)
 full_not_empty (x ∷ xs) n = refl
 
 -- all are read
-pub read_all : {t : List ℕ} {i x : ℕ} → ReadTo t i x → length t ≤ i → some x ≡ limit_of t
+pub read_all : {t : List ℕ} {i x : ℕ} → ReadTo t i x → length t ≤ i → Some x ≡ limit_of t
 unfolding limit_of is_limit fits all_of decimal_value_from
 read_all {t = t} {x = x} h e =
     let over = drop_of_length-le t e in

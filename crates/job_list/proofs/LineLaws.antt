@@ -6,7 +6,7 @@ use mathlib.Core.Path.{◌≡◌, refl, sym, ap, ◌∙◌}
 use mathlib.Core.Bool.{Bool, true, false, cond, not, ◌&&◌, and-false}
 use mathlib.Core.List.{List, [], ◌∷◌}
 use mathlib.Core.Logic.{◌≢◌}
-use mathlib.Core.Option.{Option, none, some}
+use Rattle.std.specs.Prelude.{Option, None, Some}
 use lib.ListN.{length, take, drop, length-drop}
 use lib.Seq.{take_all, drop-drop, slice}
 use lib.Dec.{ltb, eqb, eqb-zero-suc, eqb-suc-suc}
@@ -49,40 +49,40 @@ blank_no_digit (x ∷ xs) h = go (head 32 x xs) (blank_no_digit xs)
     go (here t e) ih = ap (λ y. is_digit y && all_of is_digit xs) (eqb-true x 32 t) ∙ ap (◌&& all_of is_digit xs) (below_digits 32 (omega arith))
     go (later t e) ih = ap (is_digit x &&◌) (ih (omega (e, h, arith))) ∙ and-false (is_digit x)
 
-blank_no_limit : (t : List ℕ) → index_of 32 t < length t → limit_of t ≡ none
+blank_no_limit : (t : List ℕ) → index_of 32 t < length t → limit_of t ≡ None
 blank_no_limit t h = sym (not_digits t (blank_no_digit t h))
 
 -- a line has a part
-abbrev Some : List (List ℕ) → Type 0
-Some ts = (p : List ℕ) × ((ps : List (List ℕ)) × (ts ≡ p ∷ ps))
+abbrev HasPart : List (List ℕ) → Type 0
+HasPart ts = (p : List ℕ) × ((ps : List (List ℕ)) × (ts ≡ p ∷ ps))
 
-some_part : (xs : List ℕ) → Some (parts xs)
+some_part : (xs : List ℕ) → HasPart (parts xs)
 unfolding split
 some_part [] = ([], ([], refl))
 some_part (x ∷ xs) = go (eqb x 32) refl (some_part xs)
   where
-    go : (t : Bool) → eqb x 32 ≡ t → Some (parts xs) → Some (cond (eqb x 32) ([] ∷ parts xs) (in_front x (parts xs)))
+    go : (t : Bool) → eqb x 32 ≡ t → HasPart (parts xs) → HasPart (cond (eqb x 32) ([] ∷ parts xs) (in_front x (parts xs)))
     go true t ih = ([], (parts xs, rw t))
     go false t (p, (ps, e)) = (x ∷ p, (ps, rw t (ap (in_front x) e)))
 
-no_upper : (name : List ℕ) (lower : Option ℕ) → with_limits name lower none ≡ none
-no_upper name none = refl
-no_upper name (some x) = refl
+no_upper : (name : List ℕ) (lower : Option ℕ) → with_limits name lower None ≡ None
+no_upper name None = refl
+no_upper name (Some x) = refl
 
-no_job : (t : Bool) {j : Option Job} → j ≡ none → cond t j none ≡ none
+no_job : (t : Bool) {j : Option Job} → j ≡ None → cond t j None ≡ None
 no_job true e = e
 no_job false e = refl
 
 -- what stands behind the second blank is one part, or no limit
 pub last_part :
     (name lower upper : List ℕ)
-    → job_by (name ∷ lower ∷ parts upper) ≡ cond (is_name name) (with_limits name (limit_of lower) (limit_of upper)) none
+    → job_by (name ∷ lower ∷ parts upper) ≡ cond (is_name name) (with_limits name (limit_of lower) (limit_of upper)) None
 last_part name lower upper = go (ltb (index_of 32 upper) (length upper)) refl
   where
     go :
         (t : Bool)
         → ltb (index_of 32 upper) (length upper) ≡ t
-        → job_by (name ∷ lower ∷ parts upper) ≡ cond (is_name name) (with_limits name (limit_of lower) (limit_of upper)) none
+        → job_by (name ∷ lower ∷ parts upper) ≡ cond (is_name name) (with_limits name (limit_of lower) (limit_of upper)) None
     go true t =
         let at : index_of 32 upper < length upper = ltb-true _ _ t in
         let (p, (ps, e)) = some_part (drop (suc (index_of 32 upper)) upper) in
@@ -111,7 +111,7 @@ module _ (l : List ℕ) (i : ℕ) (first : i ≡ 0 + index_of 32 (slice 0 (lengt
   at_first = omega (found 32 0 l i first, arith)
 
   -- no blank
-  pub one_part : i ≡ length l → none ≡ job_of l
+  pub one_part : i ≡ length l → None ≡ job_of l
   unfolding job_of
   one_part e = sym (ap job_by (split_none 32 l (sym at_first ∙ e)))
 
@@ -124,7 +124,7 @@ module _ (l : List ℕ) (i : ℕ) (first : i ≡ 0 + index_of 32 (slice 0 (lengt
     at_second = found 32 (i + 1) l k second
 
     -- one blank
-    pub two_parts : k ≡ length l → none ≡ job_of l
+    pub two_parts : k ≡ length l → None ≡ job_of l
     unfolding job_of
     two_parts e =
         let all : index_of 32 rest ≡ length rest = omega (at_second, e, length-drop (i + 1) l, arith) in
@@ -141,7 +141,7 @@ module _ (l : List ℕ) (i : ℕ) (first : i ≡ 0 + index_of 32 (slice 0 (lengt
       abbrev upper : List ℕ
       upper = take (length l - (k + 1)) (drop (k + 1) l)
 
-      three_parts : job_of l ≡ cond (is_name name) (with_limits name (limit_of lower) (limit_of upper)) none
+      three_parts : job_of l ≡ cond (is_name name) (with_limits name (limit_of lower) (limit_of upper)) None
       unfolding job_of
       three_parts =
           let j : k - (i + 1) ≡ index_of 32 rest = omega (at_second, arith) in
@@ -155,20 +155,20 @@ module _ (l : List ℕ) (i : ℕ) (first : i ≡ 0 + index_of 32 (slice 0 (lengt
           ∙ ap (λ r. name ∷ lower ∷ parts r) behind)
           ∙ last_part name lower upper
 
-      pub unnamed : is_name name ≡ false → none ≡ job_of l
-      unnamed e = sym (three_parts ∙ ap (λ t. cond t (with_limits name (limit_of lower) (limit_of upper)) none) e)
+      pub unnamed : is_name name ≡ false → None ≡ job_of l
+      unnamed e = sym (three_parts ∙ ap (λ t. cond t (with_limits name (limit_of lower) (limit_of upper)) None) e)
 
-      pub without_lower : limit_of lower ≡ none → none ≡ job_of l
+      pub without_lower : limit_of lower ≡ None → None ≡ job_of l
       without_lower e = sym (three_parts ∙ no_job (is_name name) (ap (λ x. with_limits name x (limit_of upper)) e))
 
-      pub without_upper : limit_of upper ≡ none → none ≡ job_of l
+      pub without_upper : limit_of upper ≡ None → None ≡ job_of l
       without_upper e =
           sym (three_parts ∙ no_job (is_name name) (ap (with_limits name (limit_of lower)) e ∙ no_upper name (limit_of lower)))
 
       pub complete :
           (x y : ℕ)
           → is_name name ≡ true
-          → limit_of lower ≡ some x
-          → limit_of upper ≡ some y
-          → some (record { name = name; lower = x; upper = y }) ≡ job_of l
+          → limit_of lower ≡ Some x
+          → limit_of upper ≡ Some y
+          → Some (record { name = name; lower = x; upper = y }) ≡ job_of l
       complete x y e lo hi = sym (three_parts ∙ rw (e, lo, hi))

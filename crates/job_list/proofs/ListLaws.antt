@@ -1,11 +1,11 @@
 -- What an accepted list has: not too many bytes, and its number of lines. Assumes nothing.
+use Rattle.std.specs.Prelude.{Ok}
 use Prim.Native.Nat.{ℕ, ◌≤◌}
 use native.Mathlib.Omega.{arith}
 use mathlib.Core.Path.{◌≡◌, sym}
 use mathlib.Core.List.{List}
 use lib.ListN.{length}
 use borrow.Author.Tests.{ltb-false}
-use Rattle.answer.specs.Answer.{answer}
 use Rattle.answer.proofs.AnswerLaws.{passed, same_answer}
 use Rattle.job_list.specs.JobList.{max_list_bytes, max_list_lines, list_lines, list_file}
 
@@ -14,7 +14,7 @@ pub record AcceptedList (b : List ℕ) (k : ℕ) : Type 0 where
   pub count : k ≡ length (list_lines b)
   pub few : k ≤ max_list_lines
 
-pub accepted_list : (b : List ℕ) (k : ℕ) → list_file b ≡ answer k → AcceptedList b k
+pub accepted_list : (b : List ℕ) (k : ℕ) → list_file b ≡ Ok k → AcceptedList b k
 unfolding list_file
 accepted_list b k e =
     let (short, r) = passed _ _ _ k e in

@@ -9,7 +9,8 @@ use mathlib.Core.Bool.{Bool, true, false, cond, not, ◌&&◌, false≢true}
 use mathlib.Core.List.Memᴰ
 use mathlib.Core.List.{List, [], ◌∷◌, ◌++◌, cons≢nil, append_assoc}
 use mathlib.Core.Logic.{◌≢◌, ◌⊎◌, inl, inr, ◌↔◌}
-use mathlib.Core.Option.{Option, none, some, none-ne-some, some-injective}
+use Rattle.std.specs.Prelude.{Option, None, Some, unwrap_or}
+use Rattle.std.proofs.lemmas.Option.{none-some}
 use lib.ListN.{length}
 use lib.Dec.{leb, eqb}
 use borrow.Author.Tests.{ltb-true, leb-true, eqb-true, eqb-false, lt-ltb, eq-eqb, ne_eqb, not-true}
@@ -129,21 +130,21 @@ is_limit_iff t = (to, of)
         rw ((not_empty_iff t).1 h.not_empty, digits, lt-ltb _ _ h.fits)
 
 -- the number that it is
-limit_iff : (t : List ℕ) (x : ℕ) → (limit_of t ≡ some x) ↔ (IsLimit t × (x ≡ decimal_value t))
+limit_iff : (t : List ℕ) (x : ℕ) → (limit_of t ≡ Some x) ↔ (IsLimit t × (x ≡ decimal_value t))
 unfolding limit_of
 limit_iff t x = (go (is_limit t) refl, λ h. rw ((is_limit_iff t).1 h.0, h.1))
   where
-    go : (s : Bool) → is_limit t ≡ s → cond s (some (decimal_value t)) none ≡ some x → IsLimit t × (x ≡ decimal_value t)
-    go true s e = ((is_limit_iff t).0 s, sym (some-injective _ _ e))
-    go false s e = absurd (none-ne-some x e)
+    go : (s : Bool) → is_limit t ≡ s → cond s (Some (decimal_value t)) None ≡ Some x → IsLimit t × (x ≡ decimal_value t)
+    go true s e = ((is_limit_iff t).0 s, sym (ap (λ o. unwrap_or o x) e))
+    go false s e = absurd (none-some x e)
 
 -- a line by its blanks: none, one, more, where what stands behind the second is one part or no limit
-no_blanks : (line : List ℕ) → ¬ (32 ∈ line) → job_of line ≡ none
+no_blanks : (line : List ℕ) → ¬ (32 ∈ line) → job_of line ≡ None
 unfolding job_of
 no_blanks line n = ap job_by (split_none 32 line (index_absent 32 line n))
 
 module _ (name : List ℕ) (n : ¬ (32 ∈ name)) where
-  one_blank : (lower : List ℕ) → ¬ (32 ∈ lower) → job_of (name ++ 32 ∷ lower) ≡ none
+  one_blank : (lower : List ℕ) → ¬ (32 ∈ lower) → job_of (name ++ 32 ∷ lower) ≡ None
   unfolding job_of
   one_blank lower k =
       ap job_by (split_first 32 ([] ∷ []) name lower n ∙ ap (name ∷◌) (split_none 32 lower (index_absent 32 lower k)))
@@ -152,7 +153,7 @@ module _ (name : List ℕ) (n : ¬ (32 ∈ name)) where
       (lower upper : List ℕ)
       → ¬ (32 ∈ lower)
       → job_of (name ++ 32 ∷ lower ++ 32 ∷ upper)
-      ≡ cond (is_name name) (with_limits name (limit_of lower) (limit_of upper)) none
+      ≡ cond (is_name name) (with_limits name (limit_of lower) (limit_of upper)) None
   unfolding job_of
   two_blanks lower upper k =
       ap job_by
@@ -164,17 +165,17 @@ module _ (name : List ℕ) (n : ¬ (32 ∈ name)) where
 -- what three parts are, where they give a job
 given :
     (name : List ℕ) (t : Bool) (x y : Option ℕ) (j : Job)
-    → cond t (with_limits name x y) none ≡ some j
-    → (t ≡ true) × (name ≡ j.name) × (x ≡ some j.lower) × (y ≡ some j.upper)
-given name true (some x) (some y) j e =
-    let job = some-injective _ _ e in
-    (refl, ap (λ i. i.name) job, ap (λ i. some i.lower) job, ap (λ i. some i.upper) job)
-given name true (some x) none j e = absurd (none-ne-some j e)
-given name true none y j e = absurd (none-ne-some j e)
-given name false x y j e = absurd (none-ne-some j e)
+    → cond t (with_limits name x y) None ≡ Some j
+    → (t ≡ true) × (name ≡ j.name) × (x ≡ Some j.lower) × (y ≡ Some j.upper)
+given name true (Some x) (Some y) j e =
+    let job = ap (λ o. unwrap_or o j) e in
+    (refl, ap (λ i. i.name) job, ap (λ i. Some i.lower) job, ap (λ i. Some i.upper) job)
+given name true (Some x) None j e = absurd (none-some j e)
+given name true None y j e = absurd (none-some j e)
+given name false x y j e = absurd (none-some j e)
 
 -- a line that gives a job is of the form
-module _ (line : List ℕ) (j : Job) (e : job_of line ≡ some j) where
+module _ (line : List ℕ) (j : Job) (e : job_of line ≡ Some j) where
   of_parts :
       (name lower upper : List ℕ)
       → line ≡ name ++ 32 ∷ lower ++ 32 ∷ upper
@@ -209,41 +210,41 @@ module _ (line : List ℕ) (j : Job) (e : job_of line ≡ some j) where
     where
       more : (name rest : List ℕ) → line ≡ name ++ 32 ∷ rest → ¬ (32 ∈ name) → First 32 rest → Gives line j
       more name rest p n (nowhere k) =
-          absurd (none-ne-some j (sym (one_blank name n rest k) ∙ sym (ap job_of p) ∙ e))
+          absurd (none-some j (sym (one_blank name n rest k) ∙ sym (ap job_of p) ∙ e))
       more name rest p n (behind lower upper q k) =
           let parted = p ∙ ap (λ r. name ++ 32 ∷ r) q ∙ sym (append_assoc name (32 ∷ lower) (32 ∷ upper)) in
           of_parts name lower upper parted n k
 
       go : First 32 line → Gives line j
-      go (nowhere n) = absurd (none-ne-some j (sym (no_blanks line n) ∙ e))
+      go (nowhere n) = absurd (none-some j (sym (no_blanks line n) ∙ e))
       go (behind name rest p n) = more name rest p n (first 32 rest)
 
 -- a line of the form gives its job: no blank is a digit
-given_by : {line : List ℕ} {j : Job} → Gives line j → job_of line ≡ some j
+given_by : {line : List ℕ} {j : Job} → Gives line j → job_of line ≡ Some j
 given_by {line} {j} g =
     let lower = g.lower_text in
     let upper = g.upper_text in
     let form = g.of_form in
     let apart : ¬ (32 ∈ lower) = λ m. absurd (omega ((form.lower_limit.digits 32 m).0, arith)) in
     let named : is_name j.name ≡ true = (name_iff j.name).1 (form.named, form.no_zero) in
-    let low : limit_of lower ≡ some j.lower = (limit_iff lower j.lower).1 (form.lower_limit, g.lower_is) in
-    let high : limit_of upper ≡ some j.upper = (limit_iff upper j.upper).1 (form.upper_limit, g.upper_is) in
+    let low : limit_of lower ≡ Some j.lower = (limit_iff lower j.lower).1 (form.lower_limit, g.lower_is) in
+    let high : limit_of upper ≡ Some j.upper = (limit_iff upper j.upper).1 (form.upper_limit, g.upper_is) in
     ap job_of form.parted ∙ two_blanks j.name form.no_blank lower upper apart ∙ rw (named, low, high)
 
 -- a line gives a job exactly where document 02 says so, and none where it says so of no job
-pub list_line_iff : (line : List ℕ) (j : Job) → (job_of line ≡ some j) ↔ Gives line j
+pub list_line_iff : (line : List ℕ) (j : Job) → (job_of line ≡ Some j) ↔ Gives line j
 list_line_iff line j = (gives line j, given_by)
 
-pub other_form_iff : (line : List ℕ) → (job_of line ≡ none) ↔ ((j : Job) → ¬ Gives line j)
-other_form_iff line = (λ e j g. none-ne-some j (sym e ∙ given_by g), go (job_of line) refl)
+pub other_form_iff : (line : List ℕ) → (job_of line ≡ None) ↔ ((j : Job) → ¬ Gives line j)
+other_form_iff line = (λ e j g. none-some j (sym e ∙ given_by g), go (job_of line) refl)
   where
-    go : (o : Option Job) → job_of line ≡ o → ((j : Job) → ¬ Gives line j) → o ≡ none
-    go none e h = refl
-    go (some j) e h = absurd (h j (gives line j e))
+    go : (o : Option Job) → job_of line ≡ o → ((j : Job) → ¬ Gives line j) → o ≡ None
+    go None e h = refl
+    go (Some j) e h = absurd (h j (gives line j e))
 
 -- Computed examples. A job by its three parts.
 abbrev job : String → ℕ → ℕ → Option Job
-job name lower upper = some (record { name = ascii name; lower = lower; upper = upper })
+job name lower upper = Some (record { name = ascii name; lower = lower; upper = upper })
 
 -- an empty last line is no line; an empty line that a line feed closes is one
 pub example_lines :
@@ -268,17 +269,17 @@ example_jobs = (refl, refl, refl, refl)
 
 -- too few parts or too many; an empty part; no name; a byte 0 in the name; 2^64; other bytes than digits in a limit
 pub example_others :
-    (job_of (ascii "") ≡ none)
-    × (job_of (ascii "a 0") ≡ none)
-    × (job_of (ascii "a 0 1 2") ≡ none)
-    × (job_of (ascii "a  0 1") ≡ none)
-    × (job_of (ascii "a  1") ≡ none)
-    × (job_of (ascii "a 0 1 ") ≡ none)
-    × (job_of (ascii " 0 1") ≡ none)
-    × (job_of (ascii "\0 0 1") ≡ none)
-    × (job_of (ascii "a 0 18446744073709551616") ≡ none)
-    × (job_of (ascii "a 0 1\r") ≡ none)
-    × (job_of (ascii "a -1 1") ≡ none)
-    × (job_of (ascii "a\t0 1") ≡ none)
+    (job_of (ascii "") ≡ None)
+    × (job_of (ascii "a 0") ≡ None)
+    × (job_of (ascii "a 0 1 2") ≡ None)
+    × (job_of (ascii "a  0 1") ≡ None)
+    × (job_of (ascii "a  1") ≡ None)
+    × (job_of (ascii "a 0 1 ") ≡ None)
+    × (job_of (ascii " 0 1") ≡ None)
+    × (job_of (ascii "\0 0 1") ≡ None)
+    × (job_of (ascii "a 0 18446744073709551616") ≡ None)
+    × (job_of (ascii "a 0 1\r") ≡ None)
+    × (job_of (ascii "a -1 1") ≡ None)
+    × (job_of (ascii "a\t0 1") ≡ None)
 unfolding job_of split is_name limit_of is_limit fits is_digit decimal_value decimal_value_from some_of all_of ascii
 example_others = (refl, refl, refl, refl, refl, refl, refl, refl, refl, refl, refl, refl)

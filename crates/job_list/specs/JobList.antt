@@ -1,14 +1,9 @@
 -- Document 02's job list: its lines, and what each gives. Assumes nothing.
-use Rattle.std.specs.Prelude.{ℕ, ◌+◌, ◌-◌, ◌*◌, ◌^◌, ◌≤◌, Bool, cond, not, ◌&&◌, List, [], ◌∷◌, length, take, drop, leb, ltb, eqb}
-use Rattle.std.proofs.Math.Option.{Option, none, some}
+use Rattle.std.specs.Prelude.{ℕ, ◌+◌, ◌-◌, ◌*◌, ◌^◌, Bool, cond, not, ◌&&◌, List, [], ◌∷◌, length, drop, leb, ltb, eqb, Option, None, Some, Ok}
 use Rattle.formula.specs.Formula.{all_of, member, is_empty}
-use Rattle.answer.specs.Answer.{Answer, refused, answer, refuse_if}
-use Rattle.job_list.specs.declared.Limiting.{Limiting}
-use Rattle.job_list.specs.declared.Parsing.{Parsing}
-use Rattle.job_list.specs.declared.Listing.{Listing}
-use Rattle.job_list.specs.declared.Limiting.TheVariants as limiting_variants
-use Rattle.job_list.specs.declared.Parsing.TheVariants as parsing_variants
-use Rattle.job_list.specs.declared.Listing.TheVariants as listing_variants
+use Rattle.answer.specs.Answer.{Answer, refuse_if}
+use Rattle.answer.specs.declared.Refusal.TheVariants as refusal
+use Rattle.job_list.specs.declared.Job as job
 
 -- a byte in front of the first of some texts
 abbrev pub in_front : ℕ → List (List ℕ) → List (List ℕ)
@@ -54,7 +49,7 @@ is_limit t = not (is_empty t) && all_of is_digit t && fits t
 
 -- its number; none where it is no limit
 unfoldable pub limit_of : List ℕ → Option ℕ
-limit_of t = cond (is_limit t) (some (decimal_value t)) none
+limit_of t = cond (is_limit t) (Some (decimal_value t)) None
 
 -- what a line gives
 pub record Job : Type 0 where
@@ -64,17 +59,17 @@ pub record Job : Type 0 where
 
 -- a name and two limits give a job, if both are limits
 abbrev pub with_limits : List ℕ → Option ℕ → Option ℕ → Option Job
-with_limits name none upper = none
-with_limits name (some x) none = none
-with_limits name (some x) (some y) = some (record { name = name; lower = x; upper = y })
+with_limits name None upper = None
+with_limits name (Some x) None = None
+with_limits name (Some x) (Some y) = Some (record { name = name; lower = x; upper = y })
 
 -- file name, lower limit, upper limit
 abbrev pub job_by : List (List ℕ) → Option Job
-job_by [] = none
-job_by (name ∷ []) = none
-job_by (name ∷ lower ∷ []) = none
-job_by (name ∷ lower ∷ upper ∷ []) = cond (is_name name) (with_limits name (limit_of lower) (limit_of upper)) none
-job_by (name ∷ lower ∷ upper ∷ more ∷ rest) = none
+job_by [] = None
+job_by (name ∷ []) = None
+job_by (name ∷ lower ∷ []) = None
+job_by (name ∷ lower ∷ upper ∷ []) = cond (is_name name) (with_limits name (limit_of lower) (limit_of upper)) None
+job_by (name ∷ lower ∷ upper ∷ more ∷ rest) = None
 
 -- a line of another form gives none
 unfoldable pub job_of : List ℕ → Option Job
@@ -90,7 +85,7 @@ max_list_lines = 4096
 -- 24, over 65,536 bytes or over 4,096 lines; else the number of lines
 unfoldable pub list_file : List ℕ → Answer ℕ
 list_file b =
-    refuse_if (ltb max_list_bytes (length b)) 24 (refuse_if (ltb max_list_lines (length (list_lines b))) 24 (answer (length (list_lines b))))
+    refuse_if (ltb max_list_bytes (length b)) refusal.ListTooLong (refuse_if (ltb max_list_lines (length (list_lines b))) refusal.ListTooLong (Ok (length (list_lines b))))
 
 -- the line that begins at an index; empty where there is none
 abbrev pub first_or_empty : List (List ℕ) → List ℕ
@@ -100,20 +95,7 @@ first_or_empty (l ∷ ls) = l
 unfoldable pub list_line_at : List ℕ → ℕ → List ℕ
 list_line_at b at = first_or_empty (list_lines (drop at b))
 
--- document 02's values for each case of what the code answers
-abbrev pub limiting : Limiting → Option ℕ
-limiting limiting_variants.Other = none
-limiting (limiting_variants.Value x) = some x
-
-abbrev pub parsing : List ℕ → Parsing → Option Job
-parsing line parsing_variants.Other = none
-parsing line (parsing_variants.Job k lower upper) = some (record { name = take k line; lower = lower; upper = upper })
-
--- the name does not end past the line
-abbrev pub name_within : List ℕ → Parsing → Type 0
-name_within line parsing_variants.Other = Unit {0}
-name_within line (parsing_variants.Job k lower upper) = k ≤ length line
-
-abbrev pub listing : Listing → Answer ℕ
-listing (listing_variants.Refused r) = refused r
-listing (listing_variants.Lines k) = answer k
+-- the job that the code gives, with the bytes of its name
+abbrev pub parsed : Option (job.Job) → Option Job
+parsed None = None
+parsed (Some j) = Some (record { name = j.name.now; lower = j.lower; upper = j.upper })

@@ -4,7 +4,7 @@
 ghost use Rattle.std.specs.Prelude.{◌≡◌, ◌+◌, ◌≤◌, length};
 ghost use Rattle.std.proofs.Math.Seq.{slice};
 ghost use Rattle.job_list.specs.Find.{index_of};
-ghost use Rattle.job_list.specs.JobList.{max_list_bytes, list_lines, list_line_at, limit_of, is_name, job_of, list_file, limiting, parsing, name_within, listing};
+ghost use Rattle.job_list.specs.JobList.{max_list_bytes, list_lines, list_line_at, limit_of, is_name, job_of, parsed, list_file};
 
 use answer::Refusal;
 
@@ -17,31 +17,12 @@ const LINE_FEED: u8 = b'\n';
 
 const BLANK: u8 = b' ';
 
-// What a part of a line is where a limit is to stand.
-#[derive(Drop)]
-enum Limiting {
-    // No limit.
-    Other,
-    // The limit's number.
-    Value(u64),
-}
-
-// What a line gives.
+// What a line gives: the file name, with which it begins, and the two limits.
 #[derive(Clone, Copy)]
-pub enum Parsing {
-    // It is of another form.
-    Other,
-    // The length of the file name, which the line begins with, and the two limits.
-    Job { name: usize, lower: u64, upper: u64 },
-}
-
-// What a list is.
-#[derive(Clone, Copy)]
-pub enum Listing {
-    // 24.
-    Refused(Refusal),
-    // The number of its lines.
-    Lines(usize),
+pub struct Job<'a> {
+    pub name: &'a [u8],
+    pub lower: u64,
+    pub upper: u64,
 }
 
 // The index of the first `byte` from `from` on and before `to`; `to` where there is none.
@@ -60,23 +41,22 @@ fn find(list: &[u8], from: usize, to: usize, byte: u8) -> usize
 }
 
 // The line that begins at index `at`, without the byte that closes it; empty where the list ends before.
+#[tactic(auto, using(crate::proofs::SplitLaws::line_found, crate::proofs::SplitLaws::line_over))]
 pub fn line_at(list: &[u8], at: usize) -> &[u8]
     ensures result_value { result.now ≡ list_line_at list.now at }
-    ensures unchanged { list.now ≡ list.now }
 {
     let end = list.len();
     if end < at {
-        return &list[..0];
+        return &[];
     }
     let to = find(list, at, end, LINE_FEED);
     &list[at..to]
 }
 
-// How many lines the list has.
+// How many lines the list has. A turn goes on by a line, so the index is no range's.
 fn count_lines(list: &[u8]) -> usize
     requires { length list.now ≤ max_list_bytes }
     ensures value { result ≡ length (list_lines list.now) }
-    ensures unchanged { list.now ≡ list.now }
 {
     let end = list.len();
     let mut count = 0;
@@ -88,88 +68,64 @@ fn count_lines(list: &[u8]) -> usize
     count
 }
 
-// The number of the list's lines; 24 for a list of too many bytes or lines.
-pub fn read_list(list: &[u8]) -> Listing
-    ensures answer { listing result ≡ list_file list.now }
-    ensures unchanged { list.now ≡ list.now }
+// The number of the list's lines; refused with too many bytes or lines.
+#[tactic(auto, unfolding(crate::specs::JobList::list_file))]
+pub fn read_list(list: &[u8]) -> Result<usize, Refusal>
+    ensures answer { result ≡ list_file list.now }
 {
     if MAX_LIST_BYTES < list.len() {
-        return Listing::Refused(Refusal::Alone(24));
+        return Err(Refusal::ListTooLong);
     }
     let count = count_lines(list);
     if MAX_LIST_LINES < count {
-        return Listing::Refused(Refusal::Alone(24));
+        return Err(Refusal::ListTooLong);
     }
-    Listing::Lines(count)
+    Ok(count)
 }
 
 // A decimal number under 2^64, with any number of leading noughts.
-fn limit(part: &[u8]) -> Limiting
-    ensures answer { limiting result ≡ limit_of part.now }
-    ensures unchanged { part.now ≡ part.now }
+fn limit(part: &[u8]) -> Option<u64>
+    ensures answer { result ≡ limit_of part.now }
 {
-    if part.len() == 0 {
-        return Limiting::Other;
+    if part.is_empty() {
+        return None;
     }
-    let mut value = 0;
-    let mut i = 0;
-    while i < part.len() {
-        let byte = part[i];
-        if byte < b'0' {
-            return Limiting::Other;
+    let mut value: u64 = 0;
+    for &byte in part {
+        if byte < b'0' || b'9' < byte {
+            return None;
         }
-        if b'9' < byte {
-            return Limiting::Other;
-        }
-        let digit = (byte - b'0') as u64;
-        if (u64::MAX - digit) / 10 < value {
-            return Limiting::Other;
-        }
-        value = 10 * value + digit;
-        i += 1;
+        value = value.checked_mul(10)?.checked_add((byte - b'0') as u64)?;
     }
-    Limiting::Value(value)
+    Some(value)
 }
 
 // Whether a part of a line is a name: not empty, and without byte 0.
 fn is_name(part: &[u8]) -> bool
     ensures answer { result ≡ is_name part.now }
-    ensures unchanged { part.now ≡ part.now }
 {
     let length = part.len();
-    if length == 0 {
-        return false;
-    }
-    find(part, 0, length, 0) == length
+    length != 0 && find(part, 0, length, 0) == length
 }
 
-// What a line gives, whatever its bytes are.
-pub fn parse(line: &[u8]) -> Parsing
-    ensures answer { parsing line.now result ≡ job_of line.now }
-    ensures within { name_within line.now result }
-    ensures unchanged { line.now ≡ line.now }
+// What a line gives, whatever its bytes are; a line of another form gives nothing.
+pub fn parse(line: &[u8]) -> Option<Job<'_>>
+    ensures answer { parsed result ≡ job_of line.now }
 {
     let length = line.len();
     let first = find(line, 0, length, BLANK);
     if first == length {
-        return Parsing::Other;
+        return None;
     }
     let second = find(line, first + 1, length, BLANK);
     if second == length {
-        return Parsing::Other;
+        return None;
     }
-    if !is_name(&line[..first]) {
-        return Parsing::Other;
+    let name = &line[..first];
+    if !is_name(name) {
+        return None;
     }
-    match limit(&line[first + 1..second]) {
-        Limiting::Other => Parsing::Other,
-        Limiting::Value(lower) => match limit(&line[second + 1..]) {
-            Limiting::Other => Parsing::Other,
-            Limiting::Value(upper) => Parsing::Job {
-                name: first,
-                lower,
-                upper,
-            },
-        },
-    }
+    let lower = limit(&line[first + 1..second])?;
+    let upper = limit(&line[second + 1..])?;
+    Some(Job { name, lower, upper })
 }

@@ -1,5 +1,5 @@
--- What is read for marks and point, and their answers, case by case. In order: what is read, by what was read for the
--- cut; what is divided; the answers, by what was read for them. Assumes nothing.
+-- What is read for marks and point; what is divided; and their answers, by what was read for them. Assumes nothing.
+use Rattle.std.specs.Prelude.{Err, Ok}
 use mathlib.Core.Path.{◌≡◌, refl, sym, ap, ◌∙◌}
 use mathlib.Core.List.{List, []}
 use Prim.Native.Nat.{ℕ, ◌≤◌, ◌<◌}
@@ -12,35 +12,21 @@ use Rattle.bounds.specs.Bounds.{not_falsified}
 use Rattle.bounds.specs.declared.Bounds.{Bounds}
 use Rattle.bounds.proofs.BoundsLaws.{cut_bounded}
 use Rattle.limits.specs.Limits.{max_plotted}
-use Rattle.answer.specs.Answer.{refused, answer}
 use Rattle.answer.specs.declared.Refusal.{Refusal}
-use Rattle.answer.specs.declared.Refusal.TheVariants.{Alone}
+use Rattle.answer.specs.declared.Refusal.TheVariants as refusal
 use Rattle.answer.proofs.AnswerLaws.{same_answer, passed, passed_then}
 use Rattle.rule_file.specs.RuleFile.{clauses, prefix, whole}
-use Rattle.rule_file.specs.Reader.{reading}
 use Rattle.rule_file.specs.Accepted.{Accepted, header}
 use Rattle.rule_file.specs.declared.Header.{Header}
-use Rattle.rule_file.specs.declared.Reading.{Reading}
-use Rattle.rule_file.specs.declared.Reading.TheVariants as reading_variants
 use Rattle.value.specs.Cut.{cut_of, read_with_level}
 use Rattle.value.proofs.CutAnswer.{level_accepted}
 use Rattle.points.specs.Points.{marks_of, point_for, read_to_plot, marks_file, point_file}
 use Rattle.points.specs.Plotted.{Plotted}
 
--- what is read, by the case of what was read for the cut
-module _ (b : List ℕ) (level : ℕ) (r : Reading) (e : reading r ≡ read_with_level b level) where
-  pub plot_refused : (k : Refusal) → r ≡ reading_variants.Refused k → refused k ≡ read_to_plot b level
-  unfolding read_to_plot
-  plot_refused k c = rw (sym e ∙ ap reading c)
-
-  module _ (h : Header) (c : r ≡ reading_variants.Accepted h) where
-    pub plot_27 : max_plotted < h.whole → refused (Alone 27) ≡ read_to_plot b level
-    unfolding read_to_plot
-    plot_27 over = rw (sym e ∙ ap reading c, lt-ltb max_plotted h.whole over)
-
-    pub plot_holds : h.whole ≤ max_plotted → answer h ≡ read_to_plot b level
-    unfolding read_to_plot
-    plot_holds small = rw (sym e ∙ ap reading c, le-ltb max_plotted h.whole small)
+-- what is read, by what was read for the cut
+pub plot_holds : (b : List ℕ) (level : ℕ) (h : Header) → read_with_level b level ≡ Ok h → h.whole ≤ max_plotted → read_to_plot b level ≡ Ok h
+unfolding read_to_plot
+plot_holds b level h e small = rw (e, le-ltb max_plotted h.whole small)
 
 -- each number of a cut is at most the whole
 pub cut_plotted : (b : List ℕ) (level : ℕ) → whole b ≤ max_plotted → Plotted (cut_of b level) (whole b)
@@ -51,24 +37,14 @@ cut_plotted b level small = record {
   whole_small = small;
 }
 
--- marks and point of a refused file or level
-module _ (b : List ℕ) (level : ℕ) (k : Refusal) (e : read_to_plot b level ≡ refused k) where
-  pub marks_refused : refused k ≡ marks_file b level
-  unfolding marks_file
-  marks_refused = rw e
-
-  pub point_refused : refused k ≡ point_file b level
-  unfolding point_file
-  point_refused = rw e
-
 -- those of a file and a level that are not refused: what was asked before, what is divided, and the answers
-module _ (b : List ℕ) (level : ℕ) (h : Header) (e : read_to_plot b level ≡ answer h) where
+module _ (b : List ℕ) (level : ℕ) (h : Header) (e : read_to_plot b level ≡ Ok h) where
   pub plot_accepted : ((Accepted b × (h ≡ header b)) × (level ≤ h.variables)) × (whole b ≤ max_plotted)
   unfolding read_to_plot
   plot_accepted =
       let (x, is, rest) = passed_then (read_with_level b level) _ h e in
-      let (small, same) = passed (ltb max_plotted x.whole) 27 (answer x) h rest in
-      let asked = level_accepted b level (reading_variants.Accepted h) (sym (is ∙ same)) h refl in
+      let (small, same) = passed (ltb max_plotted x.whole) refusal.WholeOverPlotted (Ok x) h rest in
+      let asked = level_accepted b level h (is ∙ same) in
       (asked, ltb-false max_plotted (whole b) (ap (λ y. ltb max_plotted y.whole) (sym (same_answer x h same ∙ asked.0.1)) ∙ small))
 
   whole_is : h.whole ≡ whole b
@@ -78,10 +54,10 @@ module _ (b : List ℕ) (level : ℕ) (h : Header) (e : read_to_plot b level ≡
     pub plotted : Plotted x h.whole
     plotted = rw (cut_is, whole_is) (cut_plotted b level plot_accepted.1)
 
-    pub marks_answered : answer (marks_of x h.whole) ≡ marks_file b level
+    pub marks_answered : Ok (marks_of x h.whole) ≡ marks_file b level
     unfolding marks_file
     marks_answered = rw (e, cut_is, whole_is)
 
-    pub point_answered : answer (point_for x h.whole) ≡ point_file b level
+    pub point_answered : Ok (point_for x h.whole) ≡ point_file b level
     unfolding point_file
     point_answered = rw (e, cut_is, whole_is)

@@ -1,5 +1,6 @@
 -- Marks and point over rule files. In order: the marks and the point of any numbers are their shares; what is claimed
 -- of a file and a level (`marked_claims`), and of two levels (`points_narrow`). Assumes nothing.
+use Rattle.std.specs.Prelude.{Ok}
 use mathlib.Core.Path.{◌≡◌, refl, sym, ap, ◌∙◌}
 use mathlib.Core.List.{List}
 use Prim.Native.Nat.{ℕ, ◌≤◌, ◌<◌}
@@ -9,13 +10,11 @@ use native.Mathlib.Omega.{arith}
 use borrow.Author.Tests.{eq-eqb, ne_eqb}
 use Rattle.bounds.specs.declared.Bounds.{Bounds}
 use Rattle.limits.specs.Limits.{max_plotted}
-use Rattle.answer.specs.Answer.{answer}
 use Rattle.answer.proofs.AnswerLaws.{same_answer}
 use Rattle.prefix_words.proofs.PrefixLaws.{denominator_pos}
 use Rattle.rule_file.specs.RuleFile.{prefix}
 use Rattle.rule_file.specs.Reader.{read_file}
 use Rattle.rule_file.specs.declared.Header.{Header}
-use Rattle.rule_file.specs.declared.Reading.TheVariants.{Accepted}
 use Rattle.rule_file.proofs.AcceptedLaws.{answered}
 use Rattle.value.specs.Cut.{cut_of}
 use Rattle.value.proofs.CutAnswer.{level_holds, cut_answers}
@@ -51,7 +50,7 @@ module _ (x : Bounds) (whole : ℕ) where
       go (no differ) = rw (two_marks differ) (refl, (refl, refl))
 
 -- a file that the reader answers with h, whose whole is plotted
-module _ (b : List ℕ) (h : Header) (e : read_file b ≡ answer h) (small : h.whole ≤ max_plotted) where
+module _ (b : List ℕ) (h : Header) (e : read_file b ≡ Ok h) (small : h.whole ≤ max_plotted) where
   abbrev cut_at : ℕ → Bounds
   cut_at = (demand_3_files b h e).cut
 
@@ -59,10 +58,10 @@ module _ (b : List ℕ) (h : Header) (e : read_file b ≡ answer h) (small : h.w
   positive = let (a, is) = answered b h e in rw is (denominator_pos (prefix b) a.well_formed)
 
   module _ (level : ℕ) (within : level ≤ h.variables) where
-    to_plot : read_to_plot b level ≡ answer h
+    to_plot : read_to_plot b level ≡ Ok h
     to_plot =
         let (a, is) = answered b h e in
-        sym (plot_holds b level (Accepted h) (ap answer is ∙ level_holds b a level (rw is at within)) h refl small)
+        plot_holds b level h (sym (ap Ok is ∙ level_holds b a level (rw is at within))) small
 
     cut_is : cut_at level ≡ cut_of b level
     cut_is =
@@ -72,7 +71,7 @@ module _ (b : List ℕ) (h : Header) (e : read_file b ≡ answer h) (small : h.w
     divided : Plotted (cut_at level) h.whole
     divided = plotted b level h to_plot cut_is
 
-    point_at : point_file b level ≡ answer (point_for (cut_at level) h.whole)
+    point_at : point_file b level ≡ Ok (point_for (cut_at level) h.whole)
     point_at = sym (point_answered b level h to_plot cut_is)
 
     pub marked_claims : Marked b h level
@@ -105,7 +104,7 @@ module _ (b : List ℕ) (h : Header) (e : read_file b ≡ answer h) (small : h.w
         }
 
   pub points_narrow : (level deeper : ℕ) → level ≤ deeper → deeper ≤ h.variables → (p q : Point)
-      → point_file b level ≡ answer p → point_file b deeper ≡ answer q → Narrows p q
+      → point_file b level ≡ Ok p → point_file b deeper ≡ Ok q → Narrows p q
   points_narrow level deeper order within p q p_is q_is =
       let above = le_trans order within in
       let bounded = (demand_3_files b h e).bounded level deeper order within in

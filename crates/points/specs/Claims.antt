@@ -1,10 +1,9 @@
 -- What is claimed of marks and point, over what the operations answer. Assumes nothing.
-use Rattle.std.specs.Prelude.{◌≡◌, false, List, ℕ, T, pos}
+use Rattle.std.specs.Prelude.{◌≡◌, false, List, ℕ, T, pos, Ok}
 use Rattle.std.specs.Float.{fin, binary64}
 use Rattle.std.specs.Float.Ieee.{of_int, le, lt}
 use Rattle.std.specs.Float.Ieee.Exact.{HasValue}
 use Rattle.bounds.specs.declared.Bounds.{Bounds}
-use Rattle.answer.specs.Answer.{answer}
 use Rattle.rule_file.specs.declared.Header.{Header}
 use Rattle.value.specs.Cut.{cut_file}
 use Rattle.points.specs.declared.Marks.{Marks}
@@ -21,9 +20,9 @@ pub record Marked (b : List ℕ) (h : Header) (level : ℕ) : Type 0 where
   pub cut : Bounds
   pub marks : Marks
   pub point : Point
-  pub cut_is : cut_file b level ≡ answer cut
-  pub marks_are : marks_file b level ≡ answer marks
-  pub point_is : point_file b level ≡ answer point
+  pub cut_is : cut_file b level ≡ Ok cut
+  pub marks_are : marks_file b level ≡ Ok marks
+  pub point_is : point_file b level ≡ Ok point
   -- each double is a share, before whose division nothing is lost
   pub low_is : point.low ≡ share cut.lower h.whole
   pub high_is : point.high ≡ share cut.upper h.whole

@@ -1,22 +1,18 @@
 -- The answers of the marks and of the point of a cut, for every file and level. Assumes nothing.
-use Rattle.std.specs.Prelude.{cond, List, ℕ, ltb, eqb, pos, Float}
+use Rattle.std.specs.Prelude.{cond, List, ℕ, ltb, eqb, pos, Float, Ok}
 use Rattle.std.specs.Float.{binary64}
 use Rattle.std.specs.Float.Ieee.{of_int, div}
 use Rattle.bounds.specs.declared.Bounds.{Bounds}
 use Rattle.limits.specs.Limits.{max_plotted}
-use Rattle.answer.specs.Answer.{Answer, refused, answer, refuse_if, and_then}
+use Rattle.answer.specs.Answer.{Answer, refuse_if, and_then}
+use Rattle.answer.specs.declared.Refusal.TheVariants as refusal
 use Rattle.rule_file.specs.RuleFile.{whole}
 use Rattle.rule_file.specs.declared.Header.{Header}
 use Rattle.value.specs.Cut.{cut_of, read_with_level}
 use Rattle.points.specs.declared.Marks.{Marks}
 use Rattle.points.specs.declared.Marks.TheVariants.{One, Two}
 use Rattle.points.specs.declared.Point.{Point}
-use Rattle.points.specs.declared.Marking.{Marking}
-use Rattle.points.specs.declared.Pointing.{Pointing}
-use Rattle.points.specs.declared.Plotting.{Plotting}
-use Rattle.points.specs.declared.Marking.TheVariants as marking_variants
-use Rattle.points.specs.declared.Pointing.TheVariants as pointing_variants
-use Rattle.points.specs.declared.Plotting.TheVariants as plotting_variants
+use Rattle.points.specs.declared.Plot.{Plot}
 
 -- a number out of the whole as a double: one division, rounded to nearest, of the two as doubles
 unfoldable pub share : ℕ → ℕ → Float
@@ -37,30 +33,19 @@ point_for x whole = point_of (marks_of x whole) (share x.undetermined whole)
 
 -- the file's header for marks and point: the refusals of a cut; 27, whole over 2^53
 unfoldable pub read_to_plot : List ℕ → ℕ → Answer Header
-read_to_plot b level = and_then (read_with_level b level) (λ h. refuse_if (ltb max_plotted h.whole) 27 (answer h))
+read_to_plot b level = and_then (read_with_level b level) (λ h. refuse_if (ltb max_plotted h.whole) refusal.WholeOverPlotted (Ok h))
 
 -- those refusals; else the marks of the cut
 unfoldable pub marks_file : List ℕ → ℕ → Answer Marks
-marks_file b level = and_then (read_to_plot b level) (λ _. answer (marks_of (cut_of b level) (whole b)))
+marks_file b level = and_then (read_to_plot b level) (λ _. Ok (marks_of (cut_of b level) (whole b)))
 
 -- those refusals; else the point of the cut
 unfoldable pub point_file : List ℕ → ℕ → Answer Point
-point_file b level = and_then (read_to_plot b level) (λ _. answer (point_for (cut_of b level) (whole b)))
-
--- the documents' refusal or values for each case of what the code answers
-abbrev pub marking : Marking → Answer Marks
-marking (marking_variants.Refused r) = refused r
-marking (marking_variants.Answered m) = answer m
-
-abbrev pub pointing : Pointing → Answer Point
-pointing (pointing_variants.Refused r) = refused r
-pointing (pointing_variants.Answered p) = answer p
+point_file b level = and_then (read_to_plot b level) (λ _. Ok (point_for (cut_of b level) (whole b)))
 
 -- either answer, of both at once
-abbrev pub plotting_marks : Plotting → Answer Marks
-plotting_marks (plotting_variants.Refused r) = refused r
-plotting_marks (plotting_variants.Answered m open_share) = answer m
+abbrev pub plotted_marks : Answer Plot → Answer Marks
+plotted_marks r = and_then r (λ p. Ok p.marks)
 
-abbrev pub plotting_point : Plotting → Answer Point
-plotting_point (plotting_variants.Refused r) = refused r
-plotting_point (plotting_variants.Answered m open_share) = answer (point_of m open_share)
+abbrev pub plotted_point : Answer Plot → Answer Point
+plotted_point r = and_then r (λ p. Ok (point_of p.marks p.open_share))

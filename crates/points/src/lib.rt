@@ -4,15 +4,14 @@
 
 ghost use Rattle.std.specs.Prelude.{◌≡◌, ◌≤◌};
 ghost use Rattle.limits.specs.Limits.{max_plotted};
-ghost use Rattle.answer.specs.Answer.{answer};
-ghost use Rattle.rule_file.specs.Reader.{reading};
-ghost use Rattle.points.specs.Points.{share, marks_of, point_of, point_for, plotting_marks, plotting_point, read_to_plot};
+ghost use Rattle.rule_file.specs.Opened.{Opened};
+ghost use Rattle.points.specs.Points.{share, marks_of, point_of, point_for, read_to_plot};
 ghost use Rattle.points.specs.Plotted.{Plotted};
 
 use answer::Refusal;
 use bounds::Bounds;
 use limits::MAX_PLOTTED;
-use rule_file::Reading;
+use rule_file::RuleFile;
 use value::read_with_level;
 
 // The marks of a cut.
@@ -32,51 +31,27 @@ pub struct Point {
     pub open_share: f64,
 }
 
-// The answer of the marks.
+// Both at once: the marks, and the open share.
 #[derive(Clone, Copy)]
-pub enum Marking {
-    // The reader's refusal, 12 for the level or 27 for the whole.
-    Refused(Refusal),
-    // One mark or two.
-    Answered(Marks),
+pub struct Plot {
+    pub marks: Marks,
+    pub open_share: f64,
 }
 
-// The answer of the point.
-#[derive(Clone, Copy)]
-pub enum Pointing {
-    // The reader's refusal, 12 for the level or 27 for the whole.
-    Refused(Refusal),
-    // Low mark, high mark and open share.
-    Answered(Point),
-}
-
-// Both answers at once.
-#[derive(Clone, Copy)]
-pub enum Plotting {
-    // The refusal of both.
-    Refused(Refusal),
-    // The marks, and the open share.
-    Answered(Marks, f64),
-}
-
-// The header of a file that marks or a point are asked of; after the refusals of a cut, 27 where the whole is over
-// 2^53.
-pub fn read_to_plot(rule: &[u8], level: u64) -> Reading
-    ensures answer { reading result ≡ read_to_plot rule.now level }
-    ensures unchanged { rule.now ≡ rule.now }
+// The file that marks or a point are asked of, as for a cut; then the whole may not be over 2^53.
+#[tactic(auto, unfolding(crate::specs::Points::read_to_plot))]
+pub fn read_to_plot<'a>(rule: &'a [u8], level: u64) -> Result<RuleFile<'a>, Refusal>
+    ensures answer { Opened rule.now (read_to_plot rule.now level) result }
 {
-    match read_with_level(rule, level) {
-        Reading::Refused(refusal) => Reading::Refused(refusal),
-        Reading::Accepted(header) => {
-            if MAX_PLOTTED < header.whole {
-                return Reading::Refused(Refusal::Alone(27));
-            }
-            Reading::Accepted(header)
-        }
+    let file = read_with_level(rule, level)?;
+    if MAX_PLOTTED < file.header.whole {
+        return Err(Refusal::WholeOverPlotted);
     }
+    Ok(file)
 }
 
 // A number out of the whole as a double: neither cast loses anything, so the division alone rounds.
+#[tactic(auto, unfolding(crate::specs::Points::share))]
 fn share_of(part: u64, whole: u64) -> f64
     requires part_le_whole { part ≤ whole }
     requires whole_le_max_plotted { whole ≤ max_plotted }
@@ -86,6 +61,7 @@ fn share_of(part: u64, whole: u64) -> f64
 }
 
 // One mark where the exact lower and upper number are the same, else two.
+#[tactic(auto, unfolding(crate::specs::Points::marks_of))]
 fn marks_of(bounds: Bounds, whole: u64) -> Marks
     requires { Plotted bounds whole }
     ensures { result ≡ marks_of bounds whole }
@@ -96,32 +72,36 @@ fn marks_of(bounds: Bounds, whole: u64) -> Marks
     Marks::Two(share_of(bounds.lower, whole), share_of(bounds.upper, whole))
 }
 
-// The point of these marks: a single mark is both low and high.
-pub fn point_of(marks: Marks, open_share: f64) -> Point
-    ensures { result ≡ point_of marks open_share }
+// Marks and open share of three numbers out of a whole.
+#[tactic(auto, unfolding(crate::specs::Points::point_for))]
+pub fn plot_of(bounds: Bounds, whole: u64) -> Plot
+    requires { Plotted bounds whole }
+    ensures marks { result.marks ≡ marks_of bounds whole }
+    ensures point { point_of result.marks result.open_share ≡ point_for bounds whole }
 {
-    match marks {
-        Marks::One(mark) => Point {
-            low: mark,
-            high: mark,
-            open_share,
-        },
-        Marks::Two(low, high) => Point {
-            low,
-            high,
-            open_share,
-        },
+    Plot {
+        marks: marks_of(bounds, whole),
+        open_share: share_of(bounds.undetermined, whole),
     }
 }
 
-// Marks and point of three numbers out of a whole.
-pub fn plot_of(bounds: Bounds, whole: u64) -> Plotting
-    requires { Plotted bounds whole }
-    ensures marks { plotting_marks result ≡ answer (marks_of bounds whole) }
-    ensures point { plotting_point result ≡ answer (point_for bounds whole) }
-{
-    Plotting::Answered(
-        marks_of(bounds, whole),
-        share_of(bounds.undetermined, whole),
-    )
+impl Plot {
+    // The point of these marks: a single mark is both low and high.
+    pub fn point(self) -> Point
+        ensures { result ≡ point_of self.marks self.open_share }
+    {
+        let open_share = self.open_share;
+        match self.marks {
+            Marks::One(mark) => Point {
+                low: mark,
+                high: mark,
+                open_share,
+            },
+            Marks::Two(low, high) => Point {
+                low,
+                high,
+                open_share,
+            },
+        }
+    }
 }

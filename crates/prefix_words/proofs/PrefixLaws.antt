@@ -1,29 +1,27 @@
 -- Quantifiers by their weights; totals and denominators of a well-formed prefix; products capped past the largest
--- whole, one variable at a time; where an entry stands; and the parts of a prefix whose denominator is within the
--- whole. Entries one at a time are WalkLaws' elements. Assumes nothing.
+-- whole, one variable at a time; where an entry stands, and the first that is malformed; and the parts of a prefix whose
+-- denominator is within the whole. Entries one at a time are WalkLaws' elements. Assumes nothing.
 use mathlib.Core.Path.{◌≡◌, refl, sym, ap, ◌∙◌}
-use mathlib.Core.Bool.{false, true≢false}
+use mathlib.Core.Bool.{true, false, true≢false}
 use mathlib.Core.List.{List, [], ◌∷◌, ◌++◌}
 use Prim.Native.Nat.{ℕ, zero, suc, ◌+◌, ◌-◌, ◌*◌, ◌≤◌, ◌<◌, min}
 use native.Mathlib.Nat.{min-eq_left, min-eq_right, mul-le-mul_right, mul-le-mul_left, mul_assoc, mul_comm, mul-one, le_trans, mul-pos, le-mul_of_pos_right}
 use native.Mathlib.Decide.{dec_le}
 use native.Mathlib.Omega.{arith}
 use lib.Dec.{eqb-suc-zero}
+use lib.ListN.{get_or}
+use Rattle.std.specs.Prelude.{Option, None, Some, MatchOption}
 use Rattle.formula.specs.Formula.{some_of}
 use Rattle.formula.specs.LevelRules.{denominator_by}
 use Rattle.formula.specs.Quantifier.{Quantifier, existential, randomized, total, denominator}
 use Rattle.formula.proofs.SomeLaws.{or_false, none_first, none_rest, some_of_append}
 use Rattle.formula.proofs.TreeLaws.{denominator_append}
 use Rattle.limits.specs.Limits.{max_whole}
-use Rattle.words.specs.Walk.{start}
-use Rattle.words.proofs.WalkLaws.{elements_step}
+use Rattle.words.specs.Walk.{start, first}
+use Rattle.words.proofs.WalkLaws.{elements_length, element_is, elements_step, first_at, first_nowhere}
 use Rattle.prefix_words.specs.Prefix.{quantifier, after_entry, quantifier_at, prefix_from, malformed}
 
--- a quantifier by its weights: both 0, or not
-pub quantifier_none : (s t : ℕ) → s + t ≡ 0 → quantifier s t ≡ existential
-unfolding quantifier
-quantifier_none s t e = let h : s ≡ 0 = omega arith in let k : t ≡ 0 = omega arith in rw (h, k)
-
+-- a quantifier by its weights, not both 0
 pub quantifier_some : (s t : ℕ) → (s + t ≡ 0 → ⊥) → quantifier s t ≡ randomized s t
 unfolding quantifier
 quantifier_some zero zero f = absurd (f refl)
@@ -80,6 +78,24 @@ pub entry_start : (i j : ℕ) → start after_entry i j ≡ i + 2 * j
 unfolding start
 entry_start i zero = omega arith
 entry_start i (suc j) = let e : i + 2 * j + 2 ≡ i + 2 * suc j = omega arith in ap (◌+ 2) (entry_start i j) ∙ e
+
+-- the first variable whose entry, where it stands, is malformed is the first of the entries that is
+module _ (b : List ℕ) (count i : ℕ) where
+  entry : (v : ℕ) → v < count → get_or (prefix_from b count i) v existential ≡ quantifier_at b (i + 2 * v)
+  entry v h = element_is after_entry (quantifier_at b) existential count i v h ∙ ap (quantifier_at b) (entry_start i v)
+
+  pub first_entry :
+      (r : Option ℕ) →
+      MatchOption r
+      ((k : ℕ) → 0 ≤ k → k < count → malformed (quantifier_at b (i + 2 * k)) ≡ false)
+      (λ v. (0 ≤ v) × (v < count) × (malformed (quantifier_at b (i + 2 * v)) ≡ true) × ((k : ℕ) → 0 ≤ k → k < v → malformed (quantifier_at b (i + 2 * k)) ≡ false)) →
+      r ≡ first malformed (prefix_from b count i)
+  first_entry None m =
+      let n = elements_length after_entry (quantifier_at b) count i in
+      sym (first_nowhere malformed existential _ (λ k h. let l : k < count = omega arith in ap malformed (entry k l) ∙ m k (omega arith) l))
+  first_entry (Some v) (_, h, t, before) =
+      let n = elements_length after_entry (quantifier_at b) count i in
+      sym (first_at malformed existential _ v (omega arith) (λ k l. ap malformed (entry k (omega arith)) ∙ before k (omega arith) l) (ap malformed (entry v h) ∙ t))
 
 -- the quantifiers are well-formed, and their denominator is at most the largest whole
 abbrev pub WithinWhole : List Quantifier → Type 0

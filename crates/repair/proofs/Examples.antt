@@ -1,11 +1,11 @@
 -- The definitions of the repair, computed: over clauses, and over the bytes of two files. Assumes nothing.
+use Rattle.std.specs.Prelude.{Err, Ok}
 use mathlib.Core.Path.{◌≡◌, refl}
 use mathlib.Core.List.{List, [], ◌∷◌, map}
 use Prim.Native.Nat.{ℕ}
 use Rattle.formula.specs.Formula.{some_of, those, first_of_each, out_of_range, repeats, unordered, insert_once, rising, equal}
 use Rattle.formula.specs.LevelRules.{denominator_by}
-use Rattle.answer.specs.Answer.{refused, answer}
-use Rattle.answer.specs.declared.Refusal.TheVariants.{Alone}
+use Rattle.answer.specs.declared.Refusal.TheVariants as refusal
 use Rattle.words.specs.Bytes.{word_bytes, bytes_of}
 use Rattle.words.specs.Walk.{elements, first, first_copy_after, walk}
 use Rattle.words.specs.Words.{word, wrong_length}
@@ -39,7 +39,7 @@ unfolding tautological some_of those first_of_each unordered
 example_reordered = refl
 
 -- a file of the clause 2, 0 over two existential variables: 7 and 23 are not asked
-pub example_unordered : repair_file (bytes_of (2 ∷ 2 ∷ 0 ∷ 0 ∷ 0 ∷ 0 ∷ 0 ∷ 1 ∷ 2 ∷ 3 ∷ 11 ∷ [])) 44 ≡ answer (bytes_of (2 ∷ 0 ∷ 2 ∷ 0 ∷ 0 ∷ 0 ∷ 0 ∷ 1 ∷ 2 ∷ 3 ∷ 11 ∷ []))
+pub example_unordered : repair_file (bytes_of (2 ∷ 2 ∷ 0 ∷ 0 ∷ 0 ∷ 0 ∷ 0 ∷ 1 ∷ 2 ∷ 3 ∷ 11 ∷ [])) 44 ≡ Ok (bytes_of (2 ∷ 0 ∷ 2 ∷ 0 ∷ 0 ∷ 0 ∷ 0 ∷ 1 ∷ 2 ∷ 3 ∷ 11 ∷ []))
 unfolding
     tautological some_of those first_of_each insert_once rising out_of_range repeats unordered denominator_by
     bytes_of word_bytes elements first first_copy_after walk word wrong_length quantifier
@@ -48,7 +48,7 @@ unfolding
 example_unordered = refl
 
 -- one of the clause 2, 2: the repaired file has 40 bytes, and still 43 are too few
-pub example_room : repair_file (bytes_of (2 ∷ 2 ∷ 2 ∷ 0 ∷ 0 ∷ 0 ∷ 0 ∷ 1 ∷ 2 ∷ 3 ∷ 11 ∷ [])) 43 ≡ refused (Alone 25)
+pub example_room : repair_file (bytes_of (2 ∷ 2 ∷ 2 ∷ 0 ∷ 0 ∷ 0 ∷ 0 ∷ 1 ∷ 2 ∷ 3 ∷ 11 ∷ [])) 43 ≡ Err refusal.BufferTooShort
 unfolding
     tautological some_of those first_of_each insert_once rising out_of_range repeats unordered denominator_by
     bytes_of word_bytes elements first first_copy_after walk word wrong_length quantifier

@@ -5,8 +5,9 @@
 use mathlib.Core.Path.{◌≡◌, refl, sym, ap, ap₂, ◌∙◌}
 use mathlib.Core.Bool.{true, false}
 use mathlib.Core.List.{List, [], ◌∷◌, ◌++◌, append_assoc}
-use mathlib.Core.Option.{none}
+use Rattle.std.specs.Prelude.{None}
 use Prim.Native.Nat.{ℕ, zero, suc, ◌+◌, ◌≤◌}
+use native.Mathlib.Numerals.{one-add}
 use native.Mathlib.Omega.{arith}
 use lib.ListN.{length, length-append}
 use borrow.Author.Tests.{eq-eqb, le-leb}
@@ -17,7 +18,7 @@ use Rattle.formula.proofs.SomeLaws.{none_first, none_rest}
 use Rattle.formula.proofs.Membership.{in_range_iff}
 use Rattle.limits.specs.Limits.{max_variables}
 use Rattle.words.specs.Walk.{start, elements, later, walk}
-use Rattle.words.specs.Words.{word, next_word}
+use Rattle.words.specs.Words.{word, next_word, words}
 use Rattle.words.proofs.WalkLaws.{start_next, elements_length, step_on, walked_end}
 use Rattle.words.proofs.WordsLaws.{Stand, stand_word, stand_first, stand_rest}
 use Rattle.words.proofs.WordsBack.{FitWords, fit_nil, fit_cons, fit_append}
@@ -44,8 +45,13 @@ formula_small n few (c ∷ φ) short in_range =
 
 module _ (b : List ℕ) where
   -- a clause has as many literals as its first word says
-  size_is : (i : ℕ) → length (clause_at b i) ≡ word b i
-  size_is i = elements_length next_word (word b) (word b i) (i + 1)
+  pub clause_length : (i : ℕ) → length (clause_at b i) ≡ word b i
+  clause_length i = elements_length next_word (word b) (word b i) (i + 1)
+
+  -- with that word, its own words
+  pub own_words : (i : ℕ) → words b i (1 + word b i) ≡ word b i ∷ clause_at b i
+  unfolding elements
+  own_words i = ap (words b i) (one-add (word b i))
 
   -- j clauses from word i on end where the next one stands
   words_end : (j i : ℕ) → i + length (formula_words (clauses_from b j i)) ≡ start (after_clause b) i j
@@ -53,14 +59,14 @@ module _ (b : List ℕ) where
   words_end zero i = omega arith
   words_end (suc j) i =
       let rest = words_end j (after_clause b i) ∙ start_next (after_clause b) i j in
-      omega (arith, size_is i, length-append (clause_at b i) (formula_words (clauses_from b j (after_clause b i))))
+      omega (arith, clause_length i, length-append (clause_at b i) (formula_words (clauses_from b j (after_clause b i))))
 
   -- the words of the first j clauses end where clause j stands
   pub formula_start : (j : ℕ) → length (formula_words (clauses_from b j 0)) ≡ clause_start b j
   formula_start j = omega (arith, words_end j 0)
 
   -- so those of all clauses, where a walk without fault ends
-  pub formula_end : (n end count : ℕ) → walk_clauses b n end count 0 ≡ none → length (formula_words (clauses_from b count 0)) ≡ end
+  pub formula_end : (n end count : ℕ) → walk_clauses b n end count 0 ≡ None → length (formula_words (clauses_from b count 0)) ≡ end
   formula_end n end count w = formula_start count ∙ walked_end (after_clause b) (clause_fits b n end) end count 0 w
 
 -- Reading back
@@ -91,7 +97,7 @@ module _ (d : List ℕ) where
 
     -- clauses of at most n literals, of which the last ends right before the word `end`
     pub walk_clauses_back : (φ : List (List ℕ)) (i : ℕ) → Stand d i (formula_words φ) → Every (λ c. length c ≤ n) φ
-        → i + length (formula_words φ) ≡ end → walk_clauses d n end (length φ) i ≡ none
+        → i + length (formula_words φ) ≡ end → walk_clauses d n end (length φ) i ≡ None
     unfolding formula_words walk
     walk_clauses_back [] i s few e = let h : i ≡ end = omega arith in rw (eq-eqb i end h)
     walk_clauses_back (c ∷ φ) i s few e =

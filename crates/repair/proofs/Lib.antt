@@ -1,5 +1,6 @@
 -- The definitions, computed; laws of repaired clauses, of what they mean, of the pass over a clause, of a rule file
--- from its parts, of what is held after each clause and of the answer; then the theorems over them.
+-- from its parts, of what is held after each clause, of the answer and of the pass over a stored file; then the theorems
+-- over them.
 pub mod Examples
 pub mod ListLaws
 pub mod MeaningLaws
@@ -8,5 +9,6 @@ pub mod FormulaWords
 pub mod ReadBack
 pub mod HeldLaws
 pub mod AnswerLaws
+pub mod PassLaws
 pub mod RepairLaws
 pub mod Theorems

@@ -1,13 +1,11 @@
 -- A rule file from its parts as document 01 reads it: how long the file is, and that it gives the parts back where they
--- fit; then a prefix by its words; a clause's part of a file by its words; and where the clauses of an accepted file
--- end. How clauses are read where their words stand is in FormulaWords. Assumes nothing.
+-- fit; then a prefix by its words; and where the clauses of an accepted file end. How clauses are read where their words stand is in FormulaWords. Assumes nothing.
 use mathlib.Core.Path.{◌≡◌, refl, sym, ap, ap₂, ◌∙◌}
 use mathlib.Core.Bool.{false}
 use mathlib.Core.List.{List, [], ◌∷◌, ◌++◌}
-use mathlib.Core.Option.{none}
+use Rattle.std.specs.Prelude.{None}
 use Prim.Native.Nat.{ℕ, ◌+◌, ◌-◌, ◌*◌, ◌≤◌, ◌<◌}
 use native.Mathlib.Nat.{add_assoc}
-use native.Mathlib.Numerals.{one-add}
 use native.Mathlib.Omega.{arith}
 use lib.ListN.{length, get_or, length-append}
 use lib.Seq.{ext_get_or}
@@ -15,15 +13,13 @@ use Rattle.formula.specs.Formula.{some_of, out_of_range}
 use Rattle.formula.specs.Nodes.{Every}
 use Rattle.formula.specs.Quantifier.{existential}
 use Rattle.limits.specs.Limits.{rule_trailer, max_bytes, max_variables, max_clauses}
-use Rattle.words.specs.Bytes.{bytes_of}
-use Rattle.words.specs.Walk.{elements}
-use Rattle.words.specs.Words.{word, word_count, stated_count, next_word, words, part, Length}
+use Rattle.words.specs.Words.{word, word_count, stated_count, next_word, words, Length}
 use Rattle.words.proofs.BytesLaws.{length_bytes_of}
 use Rattle.words.proofs.WalkLaws.{elements_length}
 use Rattle.words.proofs.WordsLaws.{Stand, stand_word, stand_first, stand_rest, words_stand}
-use Rattle.words.proofs.WordsBack.{FitWords, fit_nil, fit_cons, fit_append, words_back, part_bytes}
+use Rattle.words.proofs.WordsBack.{FitWords, fit_nil, fit_cons, fit_append, words_back}
 use Rattle.prefix_words.specs.Prefix.{quantifier}
-use Rattle.clause_words.specs.Clauses.{after_clause, clause_at, clauses_from, walk_clauses}
+use Rattle.clause_words.specs.Clauses.{clauses_from, walk_clauses}
 use Rattle.rule_file.specs.ReaderLimits.{stored_limits}
 use Rattle.rule_file.specs.RuleFile.{clause_count, variable_count, prefix_start, clauses, prefix}
 use Rattle.rule_file.specs.Accepted.{AcceptedWithin}
@@ -56,7 +52,7 @@ pub record RuleReadsAs (φ : List (List ℕ)) (n : ℕ) (ws d : List ℕ) : Type
   pub variable_count_is : variable_count d ≡ n
   pub prefix_start_is : prefix_start d ≡ length (formula_words φ)
   pub prefix_ends : prefix_start d + 2 * variable_count d ≡ word_count d - 4
-  pub walked : walk_clauses d (variable_count d) (prefix_start d) (clause_count d) 0 ≡ none
+  pub walked : walk_clauses d (variable_count d) (prefix_start d) (clause_count d) 0 ≡ None
   pub clauses_are : clauses d ≡ φ
   pub weights_are : weights d ≡ ws
 
@@ -138,12 +134,6 @@ same_prefix b d count same = ext_get_or existential (prefix d) (prefix b) (prefi
         quantifier_is d v lt
         ∙ ap₂ quantifier (same_word (2 * v) (omega arith)) (simp add_assoc (same_word (2 * v + 1) (omega arith)))
         ∙ sym (quantifier_is b v (rw count at lt))
-
--- the part of a file whose bytes are bytes that holds the clause at word i
-pub clause_part_bytes : (b : List ℕ) → ((i : ℕ) → get_or b i 0 < 256) → (i : ℕ) → after_clause b i ≤ word_count b
-    → part b i (1 + word b i) ≡ bytes_of (word b i ∷ clause_at b i)
-unfolding elements
-clause_part_bytes b bytes i h = part_bytes b bytes i (1 + word b i) (omega arith) ∙ ap (λ k. bytes_of (words b i k)) (one-add (word b i))
 
 -- where the clauses of an accepted file end
 pub formula_ends : (b : List ℕ) → AcceptedWithin stored_limits b → length (formula_words (clauses b)) ≡ prefix_start b

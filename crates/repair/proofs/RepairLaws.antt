@@ -1,34 +1,33 @@
 -- The repaired file of a stored one: its parts fit, so that it is read back; it is not longer; and where a file is in
 -- order and without copies there is nothing to count. Then the file as it is written. Assumes nothing.
-use mathlib.Core.Path.{◌≡◌, sym, ap, ◌∙◌, subst}
-use mathlib.Core.Bool.{false, ◌||◌}
+use mathlib.Core.Path.{◌≡◌, sym, ap, ap₂, ◌∙◌, subst}
+use mathlib.Core.Bool.{false}
 use mathlib.Core.List.{List, [], ◌∷◌, ◌++◌}
 use Prim.Native.Nat.{ℕ, zero, suc, ◌+◌, ◌-◌, ◌*◌, ◌/◌, ◌≤◌}
-use native.Mathlib.Decide.{ℕ_discrete}
 use native.Mathlib.Omega.{arith}
 use lib.ListN.{length}
-use lib.Dec.{ltb, eqb}
-use borrow.Author.Tests.{ltb-false}
+use Rattle.std.proofs.lemmas.Bool.Decides.{nat_tests}
 use Rattle.formula.specs.Formula.{some_of, out_of_range, unordered, equal}
-use Rattle.formula.specs.Quantifier.{randomized}
-use Rattle.formula.proofs.SomeLaws.{or_false, none_first, none_rest}
+use Rattle.formula.proofs.SomeLaws.{none_first, none_rest}
 use Rattle.formula.proofs.Membership.{none_of}
 use Rattle.formula.proofs.CopyLaws.{NoCopies}
 use Rattle.formula.proofs.OrderLaws.{ordered_short}
-use Rattle.limits.specs.Limits.{max_weight}
+use Rattle.limits.specs.Limits.{max_weight, max_bytes, max_variables, max_clauses}
 use Rattle.buffer.specs.Text.{Put}
 use Rattle.words.specs.Bytes.{bytes_of}
 use Rattle.words.specs.Walk.{elements}
-use Rattle.words.specs.Words.{word, words}
+use Rattle.words.specs.Words.{word, next_word, words, word_count}
+use Rattle.words.proofs.WalkLaws.{elements_length}
 use Rattle.words.proofs.BytesLaws.{length_bytes_of}
 use Rattle.words.proofs.PutLaws.{put_words_after}
 use Rattle.words.proofs.WordsBack.{FitWords, fit_nil, fit_cons}
 use Rattle.prefix_words.specs.Prefix.{quantifier, quantifier_at, prefix_from, malformed}
-use Rattle.prefix_words.proofs.PrefixLaws.{quantifier_some}
 use Rattle.rule_file.specs.ReaderLimits.{stored_limits}
 use Rattle.rule_file.specs.RuleFile.{clause_count, variable_count, prefix_start, clauses}
 use Rattle.rule_file.specs.Accepted.{AcceptedWithin}
 use Rattle.rule_file.proofs.FileLaws.{clauses_length}
+use Rattle.stored_file.specs.declared.file.StoredFile.{StoredFile}
+use Rattle.stored_file.proofs.FileLaws.{accepted, clauses_are, variables_are, prefix_is}
 use Rattle.repair.specs.Clauses.{repaired, dropped_clauses, dropped_literals}
 use Rattle.repair.specs.File.{formula_words, rule_words, weights}
 use Rattle.repair.specs.Repair.{repaired_file, repairs}
@@ -36,22 +35,13 @@ use Rattle.repair.specs.Progress.{Held}
 use Rattle.repair.specs.declared.Repairs.{Repairs}
 use Rattle.repair.proofs.ListLaws.{kept_few, repaired_ordered, repaired_in_range, ordered_kept, ordered_not_reordered}
 use Rattle.repair.proofs.ReadBack.{rule_length, RuleFits, RuleReadsAs, rule_back, weights_length, formula_ends}
-use Rattle.repair.proofs.HeldLaws.{kept_length, repaired_shorter, few_dropped}
+use Rattle.repair.proofs.HeldLaws.{kept_length, repaired_shorter}
 
 -- Weights that pass check 8 fit a word
 
-within_weight : (s t : ℕ) → malformed (randomized s t) ≡ false → (s ≤ max_weight) × (t ≤ max_weight)
-unfolding malformed
-within_weight s t e =
-    let (first, over) = or_false (eqb s 0 || eqb t 0 || ltb max_weight s) (ltb max_weight t) e in
-    (ltb-false _ _ (or_false (eqb s 0 || eqb t 0) (ltb max_weight s) first).1, ltb-false _ _ over)
-
 small_weights : (s t : ℕ) → malformed (quantifier s t) ≡ false → (s ≤ max_weight) × (t ≤ max_weight)
-small_weights s t e = go (ℕ_discrete (s + t) 0)
-  where
-    go : Dec (s + t ≡ 0) → (s ≤ max_weight) × (t ≤ max_weight)
-    go (yes z) = (omega arith, omega arith)
-    go (no n) = within_weight s t (rw (quantifier_some s t n) at e)
+unfolding malformed quantifier
+small_weights s t e = grind (arith, nat_tests)
 
 fit_entries : (b : List ℕ) (left i : ℕ) → some_of malformed (prefix_from b left i) ≡ false → FitWords (words b i (2 * left))
 unfolding elements
@@ -101,41 +91,63 @@ in_order_counts b in_order distinct =
     let no_literals : 0 ≡ dropped_literals (clauses b) (clauses b) = rw (ordered_kept (clauses b) in_order distinct) (omega arith) in
     λ j. record { bytes = length b; clauses = no_clauses j; literals = no_literals j; reordered = sym (ordered_not_reordered (clauses b) in_order distinct) j }
 
--- The file as it is written: the clauses are held, and the weights are put after them
-module _ (b : List ℕ) (a : AcceptedWithin stored_limits b) {before one : List ℕ} {x : Repairs} (held : Held before (clauses b) one x) where
-  clauses_end : x.bytes ≡ 4 * length (formula_words (repaired (clauses b)))
-  clauses_end = omega (arith, held.put.ends, length_bytes_of (formula_words (repaired (clauses b))))
+-- The file as it is written: the clauses are held, the weights are put after them, and then the trailer
+module _ (file : StoredFile) where
+  abbrev b : List ℕ
+  b = file.bytes.now
 
-  pub dropped_within : x.clauses ≤ clause_count b
-  dropped_within = omega (arith, few_dropped held, clauses_length b)
+  abbrev a : AcceptedWithin stored_limits b
+  a = accepted file
 
-  pub room_for_weights : x.bytes + 4 * (2 * variable_count b) ≤ length b
-  room_for_weights = omega (arith, clauses_end, repaired_length b a, not_longer b a)
+  pub few_clauses : file.header.clauses ≤ max_clauses
+  few_clauses = omega (arith, clauses_are file, a.few_clauses)
 
-  module _ {two : List ℕ} {y : ℕ} (put : Put one x.bytes (bytes_of (weights b)) two y) where
-    weights_end : y ≡ x.bytes + 4 * (2 * variable_count b)
-    weights_end = omega (arith, put.ends, length_bytes_of (weights b), weights_length b)
+  pub few_variables : file.header.variables ≤ max_variables
+  few_variables = omega (arith, variables_are file, a.few_variables)
 
-    pub room_for_trailer : y + 16 ≤ length b
-    room_for_trailer = omega (arith, weights_end, clauses_end, repaired_length b a, not_longer b a)
+  pub few_file_bytes : length file.bytes.now ≤ max_bytes
+  few_file_bytes = a.right_length.at_most
 
-    module _ {three : List ℕ} {z : ℕ} (trailer : Put two y (bytes_of ((clause_count b - x.clauses) ∷ variable_count b ∷ x.bytes / 4 ∷ (y / 4 + 4) ∷ [])) three z) where
+  pub header_clauses : length (clauses file.bytes.now) ≡ file.header.clauses
+  header_clauses = omega (arith, clauses_length b, clauses_are file)
+
+  -- where the weights stand, and that there is room for them and the trailer after the clauses
+  pub weights_within : file.header.prefix + 2 * file.header.variables ≤ word_count file.bytes.now
+  weights_within = omega (arith, variables_are file, prefix_is file, a.prefix_ends)
+
+  pub weights_bytes : length (bytes_of (words file.bytes.now file.header.prefix (2 * file.header.variables))) ≡ 4 * (2 * file.header.variables)
+  weights_bytes =
+      length_bytes_of (words b file.header.prefix (2 * file.header.variables)) ∙ ap (4 *◌) (elements_length next_word (word b) (2 * file.header.variables) file.header.prefix)
+
+  pub room_after : length (bytes_of (formula_words (repaired (clauses file.bytes.now)))) + 4 * (2 * file.header.variables) + 16 ≤ length file.bytes.now
+  room_after = omega (arith, variables_are file, length_bytes_of (formula_words (repaired (clauses b))), repaired_length b a, not_longer b a)
+
+  weights_are : words b file.header.prefix (2 * file.header.variables) ≡ weights b
+  weights_are = ap₂ (λ i n. words b i (2 * n)) (prefix_is file) (variables_are file)
+
+  module _ {before one two three : List ℕ} {x : Repairs} {y z : ℕ} (held : Held before (clauses b) one x)
+      (weights_put : Put one x.bytes (bytes_of (words b file.header.prefix (2 * file.header.variables))) two y)
+      (trailer : Put two y (bytes_of ((file.header.clauses - x.clauses) ∷ file.header.variables ∷ x.bytes / 4 ∷ (y / 4 + 4) ∷ [])) three z)
+    where
       pub file_put : Put before 0 (repaired_file b) three z
       unfolding repaired_file rule_words
       file_put =
           let φ = repaired (clauses b) in
-          let m : clause_count b - x.clauses ≡ length φ = omega (arith, held.clauses_dropped, few_repaired b a, clauses_length b) in
+          let ws = words b file.header.prefix (2 * file.header.variables) in
+          let clauses_end : x.bytes ≡ 4 * length (formula_words φ) = omega (arith, held.put.ends, length_bytes_of (formula_words φ)) in
+          let m : file.header.clauses - x.clauses ≡ length φ = omega (arith, held.clauses_dropped, few_repaired b a, header_clauses, clauses_are file) in
           let start : x.bytes / 4 ≡ length (formula_words φ) = omega (arith, clauses_end) in
-          let count : y / 4 + 4 ≡ length (formula_words φ) + length (weights b) + 4 = omega (arith, weights_end, clauses_end, weights_length b) in
-          let parts = put_words_after (formula_words φ) (omega arith) held.put (weights b) put in
-          subst (λ t. Put before 0 (bytes_of (formula_words φ ++ weights b ++ t)) three z)
-          (λ j. m j ∷ variable_count b ∷ start j ∷ count j ∷ [])
-          (put_words_after (formula_words φ ++ weights b) (omega arith) parts _ trailer)
+          let count : y / 4 + 4 ≡ length (formula_words φ) + length (weights b) + 4 = omega (arith, weights_put.ends, weights_bytes, clauses_end, weights_length b, variables_are file) in
+          subst (λ all. Put before 0 (bytes_of all) three z)
+          (λ j. formula_words φ ++ weights_are j ++ (m j ∷ variables_are file j ∷ start j ∷ count j ∷ []))
+          (put_words_after (formula_words φ ++ ws) (omega arith) (put_words_after (formula_words φ) (omega arith) held.put ws weights_put) _ trailer)
 
       pub file_counts : record { bytes = z; clauses = x.clauses; literals = x.literals; reordered = x.reordered } ≡ repairs b (repaired_file b)
       file_counts =
           let new = sym (repaired_reads b a).clauses_are in
-          let size : z ≡ length (repaired_file b) = omega (arith, trailer.ends, length_bytes_of ((clause_count b - x.clauses) ∷ variable_count b ∷ x.bytes / 4 ∷ (y / 4 + 4) ∷ []), weights_end, clauses_end, repaired_length b a) in
+          let size : z ≡ length (repaired_file b) = omega (arith, file_put.ends) in
           let dropped = held.clauses_dropped ∙ ap (dropped_clauses (clauses b)) new in
           let fewer = held.literals_dropped ∙ ap (dropped_literals (clauses b)) new in
           λ j. record { bytes = size j; clauses = dropped j; literals = fewer j; reordered = held.clauses_reordered j }
+
+pub ruleset write_steps = (few_clauses, few_variables, few_file_bytes, header_clauses, weights_within, weights_bytes, room_after)

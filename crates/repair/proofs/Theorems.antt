@@ -1,5 +1,6 @@
 -- What is claimed of a repair, over the bytes of both files and in the lent buffer. The definitions to read are in
 -- specs/Clauses, specs/Repair and specs/Claims. Assumes nothing.
+use Rattle.std.specs.Prelude.{Ok}
 use mathlib.Core.Path.{◌≡◌, refl, sym, ap, ◌∙◌, subst, subst⁻¹}
 use mathlib.Core.Bool.{false}
 use mathlib.Core.List.{List, ◌++◌}
@@ -9,7 +10,7 @@ use lib.ListN.{length, drop, length-append, length-drop}
 use Rattle.formula.specs.Formula.{some_of, unordered, equal}
 use Rattle.formula.specs.Quantifier.{denominator}
 use Rattle.formula.proofs.CopyLaws.{NoCopies}
-use Rattle.answer.specs.Answer.{answer, buffer_after}
+use Rattle.answer.specs.Answer.{buffer_after}
 use Rattle.answer.proofs.AnswerLaws.{passed_then, same_answer}
 use Rattle.buffer.specs.Text.{Put}
 use Rattle.buffer.proofs.TextLaws.{put_begins}
@@ -56,11 +57,11 @@ module _ (b : List ℕ) (a : AcceptedWithin stored_limits b) where
         bounded = rw prefix_is a.bounded;
       }
 
-  figure_is : figure_file d ≡ answer (record { figure = figure_of b; whole = whole b })
+  figure_is : figure_file d ≡ Ok (record { figure = figure_of b; whole = whole b })
   unfolding figure_file
   figure_is =
       let same : figure_of d ≡ figure_of b = rw ((repaired_reads b a).clauses_are, prefix_is) (repaired_figure (clauses b) (prefix b) (rw (prefix_length b) a.in_range)) in
-      rw (accepted_answers d accepted) (λ j. answer (record { figure = same j; whole = denominator (prefix_is j) }))
+      rw (accepted_answers d accepted) (λ j. Ok (record { figure = same j; whole = denominator (prefix_is j) }))
 
   -- the new clauses are in order and without copies, so that nothing is left to do
   in_order : some_of unordered (clauses d) ≡ false
@@ -75,12 +76,12 @@ module _ (b : List ℕ) (a : AcceptedWithin stored_limits b) where
       let r = repaired_reads b a in
       λ j. rule_bytes ((ordered_repaired (clauses d) in_order distinct ∙ r.clauses_are) j) (r.variable_count_is j) (r.weights_are j)
 
-  again : (capacity : ℕ) → length d ≤ capacity → repair_file d capacity ≡ answer d
-  again capacity h = repair_answers d capacity (stored_accepts d accepted) h ∙ ap answer itself
+  again : (capacity : ℕ) → length d ≤ capacity → repair_file d capacity ≡ Ok d
+  again capacity h = repair_answers d capacity (stored_accepts d accepted) h ∙ ap Ok itself
 
-  nothing : (capacity : ℕ) → length d ≤ capacity → repair_answer d capacity ≡ answer (record { bytes = length d; clauses = 0; literals = 0; reordered = 0 })
+  nothing : (capacity : ℕ) → length d ≤ capacity → repair_answer d capacity ≡ Ok (record { bytes = length d; clauses = 0; literals = 0; reordered = 0 })
   unfolding repair_answer
-  nothing capacity h = rw (again capacity h) (ap answer (sym (in_order_counts d in_order distinct)))
+  nothing capacity h = rw (again capacity h) (ap Ok (sym (in_order_counts d in_order distinct)))
 
   repaired_to : RepairedTo b d
   repaired_to =
@@ -98,11 +99,11 @@ module _ (b : List ℕ) (a : AcceptedWithin stored_limits b) where
       }
 
 -- Every repaired file is what is claimed
-pub repaired_claims : (b : List ℕ) (capacity : ℕ) (d : List ℕ) → repair_file b capacity ≡ answer d → RepairedTo b d
+pub repaired_claims : (b : List ℕ) (capacity : ℕ) (d : List ℕ) → repair_file b capacity ≡ Ok d → RepairedTo b d
 repaired_claims b capacity d e = let (a, rest) = answered_repair b capacity d e in rw rest.1 at (repaired_to b a)
 
 -- and stands at the start of the lent buffer, whose other bytes are as they were
-pub repaired_into_buffer : (b before : List ℕ) (x : Repairs) → repair_answer b (length before) ≡ answer x
+pub repaired_into_buffer : (b before : List ℕ) (x : Repairs) → repair_answer b (length before) ≡ Ok x
     → RepairedInto b before (buffer_after (repair_file b (length before)) before) x.bytes
 unfolding repair_answer
 repaired_into_buffer b before x e =

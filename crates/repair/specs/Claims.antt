@@ -1,7 +1,6 @@
 -- What is claimed of a rule file b and of its repaired file d. Assumes nothing.
-use Rattle.std.specs.Prelude.{ℕ, ◌≤◌, ◌≡◌, ◌↔◌, List, length, take, drop}
+use Rattle.std.specs.Prelude.{ℕ, ◌≤◌, ◌≡◌, ◌↔◌, List, length, take, drop, Ok}
 use Rattle.formula.specs.Nodes.{Met}
-use Rattle.answer.specs.Answer.{answer}
 use Rattle.rule_file.specs.RuleFile.{variable_count, clauses, prefix, whole}
 use Rattle.rule_file.specs.Reader.{read_file}
 use Rattle.rule_file.specs.Accepted.{header}
@@ -17,12 +16,12 @@ pub record RepairedTo (b d : List ℕ) : Type 0 where
   pub same_variables : variable_count d ≡ variable_count b
   pub same_weights : weights d ≡ weights b
   pub same_prefix : prefix d ≡ prefix b
-  pub accepted : read_file d ≡ answer (header d)
-  pub same_figure : figure_file d ≡ answer (record { figure = figure_of b; whole = whole b })
+  pub accepted : read_file d ≡ Ok (header d)
+  pub same_figure : figure_file d ≡ Ok (record { figure = figure_of b; whole = whole b })
   pub not_longer : length d ≤ length b
-  pub repaired_again : (capacity : ℕ) → length d ≤ capacity → repair_file d capacity ≡ answer d
+  pub repaired_again : (capacity : ℕ) → length d ≤ capacity → repair_file d capacity ≡ Ok d
   pub nothing_left : (capacity : ℕ) → length d ≤ capacity
-      → repair_answer d capacity ≡ answer (record { bytes = length d; clauses = 0; literals = 0; reordered = 0 })
+      → repair_answer d capacity ≡ Ok (record { bytes = length d; clauses = 0; literals = 0; reordered = 0 })
 
 -- a lent buffer, before and after a repaired file of k bytes is written into it
 pub record RepairedInto (b before after : List ℕ) (k : ℕ) : Type 0 where

@@ -1,13 +1,12 @@
 -- The repair's answer for every rule file and every lent buffer. Assumes nothing.
-use Rattle.std.specs.Prelude.{ℕ, List, length, ltb}
-use Rattle.answer.specs.Answer.{Answer, refused, answer, refuse_if, and_then}
+use Rattle.std.specs.Prelude.{ℕ, List, length, ltb, Ok}
+use Rattle.answer.specs.Answer.{Answer, refuse_if, and_then}
+use Rattle.answer.specs.declared.Refusal.TheVariants as refusal
 use Rattle.rule_file.specs.RuleFile.{variable_count, clauses}
 use Rattle.rule_file.specs.Reader.{read_stored}
 use Rattle.repair.specs.Clauses.{repaired, dropped_clauses, dropped_literals, reordered}
 use Rattle.repair.specs.File.{rule_bytes, weights}
 use Rattle.repair.specs.declared.Repairs.{Repairs}
-use Rattle.repair.specs.declared.Repairing.{Repairing}
-use Rattle.repair.specs.declared.Repairing.TheVariants.{Refused, Repaired}
 
 -- the repaired clauses, the weights as they were, and a trailer that fits them
 unfoldable pub repaired_file : List ℕ → List ℕ
@@ -16,7 +15,9 @@ repaired_file b = rule_bytes (repaired (clauses b)) (variable_count b) (weights 
 -- the repaired file for a lent buffer of so many bytes; or a refusal of the reader of stored files, or 25, a buffer
 -- shorter than the input
 unfoldable pub repair_file : List ℕ → ℕ → Answer (List ℕ)
-repair_file b capacity = and_then (read_stored b) (λ _. refuse_if (ltb capacity (length b)) 25 (answer (repaired_file b)))
+repair_file b capacity = and_then (read_stored b) (λ _.
+    refuse_if (ltb capacity (length b)) refusal.BufferTooShort
+    (Ok (repaired_file b)))
 
 -- the byte length of the file d and the three counts, over the two files
 abbrev pub repairs : List ℕ → List ℕ → Repairs
@@ -30,9 +31,4 @@ repairs b d =
 
 -- the operation answers them
 unfoldable pub repair_answer : List ℕ → ℕ → Answer Repairs
-repair_answer b capacity = and_then (repair_file b capacity) (λ d. answer (repairs b d))
-
--- the documents' refusal or values for each case of what the code answers
-abbrev pub repairing : Repairing → Answer Repairs
-repairing (Refused r) = refused r
-repairing (Repaired x) = answer x
+repair_answer b capacity = and_then (repair_file b capacity) (λ d. Ok (repairs b d))

@@ -1,8 +1,8 @@
 -- The program ssat_repair: what it prints for a rule file, document 02's repaired file to standard output, and to
 -- standard error its counts or the refusal's line. Assumes nothing.
-use Rattle.std.specs.Prelude.{List, [], ◌∷◌, ◌++◌, ℕ}
+use Rattle.std.specs.Prelude.{List, [], ◌∷◌, ◌++◌, ℕ, Err, Ok}
 use Rattle.limits.specs.Limits.{max_bytes}
-use Rattle.answer.specs.Answer.{Answer, refused, answer}
+use Rattle.answer.specs.Answer.{Answer}
 use Rattle.buffer.specs.Text.{ascii, line}
 use Rattle.repair.specs.Repair.{repair_file, repair_answer}
 use Rattle.repair.specs.declared.Repairs.{Repairs}
@@ -10,8 +10,8 @@ use Rattle.report.specs.Report.{refusal_line}
 
 -- the repaired file's bytes as they are, or none
 abbrev pub file_or_nothing : Answer (List ℕ) → List ℕ
-file_or_nothing (refused r) = []
-file_or_nothing (answer d) = d
+file_or_nothing (Err r) = []
+file_or_nothing (Ok d) = d
 
 -- all that goes to standard output: the program lends the repair 65,536 bytes
 unfoldable pub repair_output : List ℕ → List ℕ
@@ -24,8 +24,8 @@ counts_text x =
     ++ line (ascii "reordered") (x.reordered ∷ [])
 
 abbrev pub counts_or_refusal : Answer Repairs → List ℕ
-counts_or_refusal (refused r) = refusal_line r
-counts_or_refusal (answer x) = counts_text x
+counts_or_refusal (Err r) = refusal_line r
+counts_or_refusal (Ok x) = counts_text x
 
 -- all that goes to standard error
 unfoldable pub repair_notice : List ℕ → List ℕ

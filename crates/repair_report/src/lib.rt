@@ -7,7 +7,7 @@ ghost use Rattle.repair_report.specs.RepairReport.{repair_output, counts_text, r
 
 use buffer::put_line;
 use limits::MAX_BYTES;
-use repair::{Repairing, Repairs, repair};
+use repair::{Repairs, repair};
 use report::put_refusal;
 
 // How many bytes go to standard output and to standard error.
@@ -32,14 +32,13 @@ fn put_counts(counts: Repairs, notice: &mut [u8; 117]) -> usize
 pub fn output_and_notice(rule: &[u8], out: &mut [u8; MAX_BYTES], notice: &mut [u8; 117]) -> Printed
     ensures output { Begins out.old (repair_output rule.now) out.new result.output }
     ensures notice { Begins notice.old (repair_notice rule.now) notice.new result.notice }
-    ensures unchanged { rule.now ≡ rule.now }
 {
     match repair(rule, out) {
-        Repairing::Refused(refusal) => Printed {
+        Err(refusal) => Printed {
             output: 0,
             notice: put_refusal(notice, 0, refusal),
         },
-        Repairing::Repaired(counts) => Printed {
+        Ok(counts) => Printed {
             output: counts.bytes,
             notice: put_counts(counts, notice),
         },

@@ -1,9 +1,9 @@
 -- Document 01's program: the text that it prints for a rule file. Assumes nothing.
-use Rattle.std.specs.Prelude.{List, [], ◌∷◌, ◌++◌, ℕ, zero, suc, get_or}
+use Rattle.std.specs.Prelude.{List, [], ◌∷◌, ◌++◌, ℕ, zero, suc, get_or, Err, Ok}
+use Rattle.std.specs.Option.{option_to_list}
 use Rattle.bounds.specs.declared.Bounds.{Bounds}
-use Rattle.answer.specs.Answer.{Answer, refused, answer}
+use Rattle.answer.specs.Answer.{Answer, number_of, place_of}
 use Rattle.answer.specs.declared.Refusal.{Refusal}
-use Rattle.answer.specs.declared.Refusal.TheVariants.{Alone, At}
 use Rattle.buffer.specs.Text.{ascii, line}
 use Rattle.rule_file.specs.RuleFile.{variable_count}
 use Rattle.rule_file.specs.Reader.{read_file}
@@ -14,8 +14,7 @@ use Rattle.value.specs.Cut.{cut_of}
 
 -- a refusal's number, and its place where it names one
 unfoldable pub refusal_line : Refusal → List ℕ
-refusal_line (Alone k) = line (ascii "refused") (k ∷ [])
-refusal_line (At k i) = line (ascii "refused") (k ∷ i ∷ [])
+refusal_line r = line (ascii "refused") (number_of r ∷ option_to_list (place_of r))
 
 -- a level, and the lower number, the upper number and the open weight of the cut there
 unfoldable pub cut_line : ℕ → Bounds → List ℕ
@@ -42,8 +41,8 @@ accepted_text b = head_text (header b) (figure_of b) ++ cut_lines (cut_of b) (su
 
 -- by the reader's answer
 abbrev pub text_by : List ℕ → Answer Header → List ℕ
-text_by b (refused r) = refusal_line r
-text_by b (answer h) = accepted_text b
+text_by b (Err r) = refusal_line r
+text_by b (Ok h) = accepted_text b
 
 -- all that is printed
 unfoldable pub report_text : List ℕ → List ℕ

@@ -3,23 +3,26 @@
 use Prim.Native.Nat.{ℕ, zero, suc, ◌+◌, ◌*◌, ◌/◌, ◌%◌, ◌≤◌, ◌<◌, suc-le-suc}
 use native.Mathlib.Nat.{add-zero, add-suc, suc-add, zero-add, not-suc-le-zero, le_of_suc-le-suc, zero-lt-suc, le_of_eq}
 use native.Mathlib.Omega.{arith}
-use mathlib.Core.Path.{◌≡◌, refl, ap, subst₂}
+use mathlib.Core.Path.{◌≡◌, sym, refl, ap, subst₂}
 use mathlib.Core.Logic.{◌↔◌}
 use mathlib.Core.Bool.{Bool, true, false, cond}
 use mathlib.Core.List.{List, [], ◌∷◌}
-use mathlib.Core.Option.{Option, none, some, some-ne-none, none-ne-some}
+use Rattle.std.specs.Prelude.{Option, None, Some}
+use Rattle.std.proofs.lemmas.Option.{none-some}
 use lib.ListN.{length, drop_of_length-le}
 use lib.Dec.{eqb, ltb, leb}
 use borrow.Author.Tests.{eqb-true, eqb-false, eq-eqb, ltb-true, lt-ltb, leb-true, le-leb}
 use Rattle.formula.specs.Quantifier.{Quantifier}
 use Rattle.formula.proofs.OrderLaws.{equal_iff}
 use Rattle.formula.proofs.Membership.{and_iff, all_of_iff, some_of_iff, member_iff}
-use Rattle.resolution.specs.Resolution.{Annotated, Blocking, Resolves, Resolvent, Line, blocking, resolvent, derived, original_clause, line_at, Names, clause, line, Follows, by_R2, by_R3, is_resolvent, some_if, lookup, require, judge_resolvent, judge, first_refusal, judge_from, judge_lines, empty_value, closing_value}
+use Rattle.resolution.specs.declared.Fault.{Fault}
+use Rattle.resolution.specs.declared.Fault.TheVariants as fault
+use Rattle.resolution.specs.Resolution.{Annotated, Blocking, Resolves, Resolvent, Line, blocking, resolvent, derived, original_clause, line_at, Names, clause, line, Follows, by_R2, by_R3, is_resolvent, some_if, lookup, require, judge_resolvent, judge, first_fault, judge_from, judge_lines, empty_value, closing_value}
 
-require_iff : (b : Bool) (k : ℕ) (rest : Option ℕ) → (require b k rest ≡ none) ↔ ((b ≡ true) × (rest ≡ none))
+require_iff : (b : Bool) (f : Fault) (rest : Option Fault) → (require b f rest ≡ None) ↔ ((b ≡ true) × (rest ≡ None))
 unfolding require
-require_iff true k rest = (λ e. (refl, e), λ h. h.1)
-require_iff false k rest = (λ e. (cc, cc), λ h. cc)
+require_iff true f rest = (λ e. (refl, e), λ h. h.1)
+require_iff false f rest = (λ e. (cc, cc), λ h. cc)
 
 ltb_iff : (a b : ℕ) → (ltb a b ≡ true) ↔ a < b
 ltb_iff a b = (ltb-true a b, lt-ltb a b)
@@ -30,17 +33,17 @@ leb_iff a b = (leb-true a b, le-leb a b)
 eqb_iff : (a b : ℕ) → (eqb a b ≡ true) ↔ (a ≡ b)
 eqb_iff a b = (eqb-true a b, eq-eqb a b)
 
-some_if_is : {A : Type 0} (b : Bool) (x y : A) → some_if b x ≡ some y → (b ≡ true) × (x ≡ y)
+some_if_is : {A : Type 0} (b : Bool) (x y : A) → some_if b x ≡ Some y → (b ≡ true) × (x ≡ y)
 some_if_is true x y e = (refl, cc)
 some_if_is false x y e = (cc, cc)
 
 module _ (φ : List (List ℕ)) (lines : List Line) (k : ℕ) where
-  pub lookup_names : (r : ℕ) (c : Annotated) → lookup φ lines k r ≡ some c → Names φ lines k r c
+  pub lookup_names : (r : ℕ) (c : Annotated) → lookup φ lines k r ≡ Some c → Names φ lines k r c
   unfolding lookup
   lookup_names r c = go (eqb (r % 2) 0) refl
     where
       go : (even : Bool) → eqb (r % 2) 0 ≡ even
-          → cond even (some_if (ltb (r / 2) (length φ)) (original_clause φ (r / 2))) (some_if (ltb (r / 2) k) (derived (line_at lines (r / 2)))) ≡ some c
+          → cond even (some_if (ltb (r / 2) (length φ)) (original_clause φ (r / 2))) (some_if (ltb (r / 2) k) (derived (line_at lines (r / 2)))) ≡ Some c
           → Names φ lines k r c
       go true h e =
           let (below, is) = some_if_is (ltb (r / 2) (length φ)) (original_clause φ (r / 2)) c e in
@@ -51,7 +54,7 @@ module _ (φ : List (List ℕ)) (lines : List Line) (k : ℕ) where
           let twice : 2 * (r / 2) + 1 ≡ r = omega (arith, eqb-false (r % 2) 0 h) in
           subst₂ (Names φ lines k) twice is (line (r / 2) (ltb-true (r / 2) k below))
 
-  names_lookup : {r : ℕ} {c : Annotated} → Names φ lines k r c → lookup φ lines k r ≡ some c
+  names_lookup : {r : ℕ} {c : Annotated} → Names φ lines k r c → lookup φ lines k r ≡ Some c
   unfolding lookup
   names_lookup (clause i h) =
       let (e, d) : (2 * i % 2 ≡ 0) × (2 * i / 2 ≡ i) = omega arith in rw (e, d, lt-ltb i (length φ) h)
@@ -71,7 +74,7 @@ resolves_iff v s t c =
       λ r. ((((r.true_side, r.false_side), r.true_last), r.false_last), r.others),
     )
 
-resolvent_iff : (qs : List Quantifier) (v : ℕ) (s t c : Annotated) → (judge_resolvent qs v (some s) (some t) c ≡ none) ↔ Resolvent qs v s t c
+resolvent_iff : (qs : List Quantifier) (v : ℕ) (s t c : Annotated) → (judge_resolvent qs v (Some s) (Some t) c ≡ None) ↔ Resolvent qs v s t c
 unfolding judge_resolvent
 resolvent_iff qs v s t c =
     simp
@@ -81,38 +84,38 @@ resolvent_iff qs v s t c =
     )
 
 module _ (φ : List (List ℕ)) (qs : List Quantifier) (lines : List Line) (k : ℕ) where
-  blocking_iff : (c : Annotated) → (judge φ qs lines k (blocking c) ≡ none) ↔ Blocking φ qs c
+  blocking_iff : (c : Annotated) → (judge φ qs lines k (blocking c) ≡ None) ↔ Blocking φ qs c
   unfolding judge
   blocking_iff c =
       simp reflected (λ (opposed, (equal, _)). record { opposed = opposed; valued = equal }, λ b. (b.opposed, (b.valued, refl)))
 
-  judge_follows : (l : Line) → judge φ qs lines k l ≡ none → Follows φ qs lines k l
+  judge_follows : (l : Line) → judge φ qs lines k l ≡ None → Follows φ qs lines k l
   unfolding judge judge_resolvent
   judge_follows (blocking c) e = by_R2 ((blocking_iff c).0 e)
   judge_follows (resolvent c v r u) e = go (lookup φ lines k r) (lookup φ lines k u) refl refl e
     where
-      go : (s t : Option Annotated) → lookup φ lines k r ≡ s → lookup φ lines k u ≡ t → judge_resolvent qs v s t c ≡ none
+      go : (s t : Option Annotated) → lookup φ lines k r ≡ s → lookup φ lines k u ≡ t → judge_resolvent qs v s t c ≡ None
           → Follows φ qs lines k (resolvent c v r u)
-      go none t p q e = absurd (some-ne-none 18 e)
-      go (some s) none p q e = absurd (some-ne-none 18 e)
-      go (some s) (some t) p q e = by_R3 (lookup_names φ lines k r s p) (lookup_names φ lines k u t q) ((resolvent_iff qs v s t c).0 e)
+      go None t p q e = absurd (none-some fault.MissingParent (sym e))
+      go (Some s) None p q e = absurd (none-some fault.MissingParent (sym e))
+      go (Some s) (Some t) p q e = by_R3 (lookup_names φ lines k r s p) (lookup_names φ lines k u t q) ((resolvent_iff qs v s t c).0 e)
 
-  follows_judge : {l : Line} → Follows φ qs lines k l → judge φ qs lines k l ≡ none
+  follows_judge : {l : Line} → Follows φ qs lines k l → judge φ qs lines k l ≡ None
   unfolding judge
   follows_judge (by_R2 {c = c} b) = (blocking_iff c).1 b
   follows_judge (by_R3 {s = s} {t = t} {c = c} {v = v} p q x) =
       rw (names_lookup φ lines k p, names_lookup φ lines k q) ((resolvent_iff qs v s t c).1 x)
 
-  pub judge_iff : (l : Line) → (judge φ qs lines k l ≡ none) ↔ Follows φ qs lines k l
+  pub judge_iff : (l : Line) → (judge φ qs lines k l ≡ None) ↔ Follows φ qs lines k l
   judge_iff l = (judge_follows l, follows_judge)
 
-first_iff : (o : Option ℕ) (k : ℕ) (rest : Option (ℕ × ℕ)) → (first_refusal o k rest ≡ none) ↔ ((o ≡ none) × (rest ≡ none))
-unfolding first_refusal
-first_iff none k rest = (λ e. (refl, e), λ h. h.1)
-first_iff (some n) k rest = (λ e. (cc, cc), λ h. cc)
+first_iff : (o : Option Fault) (k : ℕ) (rest : Option (Fault × ℕ)) → (first_fault o k rest ≡ None) ↔ ((o ≡ None) × (rest ≡ None))
+unfolding first_fault
+first_iff None k rest = (λ e. (refl, e), λ h. h.1)
+first_iff (Some f) k rest = (λ e. (cc, cc), λ h. cc)
 
 module _ (φ : List (List ℕ)) (qs : List Quantifier) (lines : List Line) where
-  from_follow : (k : ℕ) (rest : List Line) → judge_from φ qs lines k rest ≡ none
+  from_follow : (k : ℕ) (rest : List Line) → judge_from φ qs lines k rest ≡ None
       → (i : ℕ) → i < length rest → Follows φ qs lines (k + i) (line_at rest i)
   unfolding judge_from
   from_follow k [] e i h = absurd (not-suc-le-zero h)
@@ -121,7 +124,7 @@ module _ (φ : List (List ℕ)) (qs : List Quantifier) (lines : List Line) where
       rw (add-suc, ← suc-add) (from_follow (suc k) rest ((first_iff _ _ _).0 e).1 i (le_of_suc-le-suc h))
 
   follow_from : (k : ℕ) (rest : List Line) → ((i : ℕ) → i < length rest → Follows φ qs lines (k + i) (line_at rest i))
-      → judge_from φ qs lines k rest ≡ none
+      → judge_from φ qs lines k rest ≡ None
   unfolding judge_from
   follow_from k [] h = refl
   follow_from k (l ∷ rest) h =
@@ -130,19 +133,19 @@ module _ (φ : List (List ℕ)) (qs : List Quantifier) (lines : List Line) where
         follow_from (suc k) rest (λ i b. rw (suc-add, ← add-suc) (h (suc i) (suc-le-suc b))),
       )
 
-  pub judge_lines_iff : (judge_lines φ qs lines ≡ none) ↔ ((k : ℕ) → k < length lines → Follows φ qs lines k (line_at lines k))
+  pub judge_lines_iff : (judge_lines φ qs lines ≡ None) ↔ ((k : ℕ) → k < length lines → Follows φ qs lines k (line_at lines k))
   judge_lines_iff = (λ e k h. rw zero-add at (from_follow 0 lines e k h), λ h. follow_from 0 lines (λ k b. rw zero-add (h k b)))
 
-named_empty : (o : Option Annotated) (x : ℕ) → empty_value o ≡ some x → o ≡ some (record { literals = []; value = x })
+named_empty : (o : Option Annotated) (x : ℕ) → empty_value o ≡ Some x → o ≡ Some (record { literals = []; value = x })
 unfolding empty_value
-named_empty none x e = absurd (none-ne-some x e)
-named_empty (some c) x e =
+named_empty None x e = absurd (none-some x e)
+named_empty (Some c) x e =
     let (empty, is) = some_if_is (eqb (length c.literals) 0) c.value x e in
     let nil : c.literals ≡ [] = drop_of_length-le c.literals (le_of_eq (eqb-true (length c.literals) 0 empty)) in
-    ap some (λ i. record { literals = nil i; value = is i })
+    ap Some (λ i. record { literals = nil i; value = is i })
 
 pub closing_iff : (φ : List (List ℕ)) (lines : List Line) (r x : ℕ)
-    → (closing_value φ lines r ≡ some x) ↔ Names φ lines (length lines) r (record { literals = []; value = x })
+    → (closing_value φ lines r ≡ Some x) ↔ Names φ lines (length lines) r (record { literals = []; value = x })
 unfolding empty_value
 closing_iff φ lines r x = (
   λ e. lookup_names φ lines (length lines) r _ (named_empty (lookup φ lines (length lines) r) x e),

@@ -6,7 +6,7 @@ use native.Mathlib.Omega.{arith}
 use mathlib.Core.Path.{◌≡◌}
 use mathlib.Core.Bool.{false}
 use mathlib.Core.List.{List, []}
-use mathlib.Core.Option.{none, some}
+use Rattle.std.specs.Prelude.{None, Some}
 use lib.ListN.{length}
 use Rattle.formula.specs.Formula.{some_of, repeats, unordered}
 use Rattle.formula.specs.Quantifier.{Quantifier}
@@ -48,11 +48,11 @@ module _ (φ : List (List ℕ)) (qs : List Quantifier) (lines : List Line)
       (no_repeats_non_tautological _ (none_of (λ l. repeats (derived l).literals) lines_no_repeats (get_or_in lines k _ (omega arith))))
       (follow k h)
 
-  accepted_derivable : judge_lines φ qs lines ≡ none → {r : ℕ} {c : Annotated} → Names φ lines (length lines) r c → Derivable φ qs c
+  accepted_derivable : judge_lines φ qs lines ≡ None → {r : ℕ} {c : Annotated} → Names φ lines (length lines) r c → Derivable φ qs c
   accepted_derivable e = named_from (lines_derivable (length lines) (le_refl _) ((judge_lines_iff φ qs lines).0 e))
 
   -- Lemma 3.1 for what a reference names, a clause of φ or a line
-  pub accepted_sound : judge_lines φ qs lines ≡ none → {r : ℕ} {c : Annotated} → Names φ lines (length lines) r c → Sound φ qs c
+  pub accepted_sound : judge_lines φ qs lines ≡ None → {r : ℕ} {c : Annotated} → Names φ lines (length lines) r c → Sound φ qs c
   accepted_sound e n = derivable_sound (accepted_derivable e n)
 
   -- Corollary 3.2 for the closing reference
@@ -60,8 +60,8 @@ module _ (φ : List (List ℕ)) (qs : List Quantifier) (lines : List Line)
   closing_is_figure r x e close = derivable_empty (accepted_derivable e ((closing_iff φ lines r x).0 close))
 
   -- what the check may take for granted of the parents of line n
-  pub parent_derivable : (n : ℕ) → n ≤ length lines → ((k : ℕ) → k < n → judge φ qs lines k (line_at lines k) ≡ none)
-      → (r : ℕ) (c : Annotated) → lookup φ lines n r ≡ some c → Derivable φ qs c
+  pub parent_derivable : (n : ℕ) → n ≤ length lines → ((k : ℕ) → k < n → judge φ qs lines k (line_at lines k) ≡ None)
+      → (r : ℕ) (c : Annotated) → lookup φ lines n r ≡ Some c → Derivable φ qs c
   parent_derivable n fits passed r c e =
       let follow : Follow n = λ k h. (judge_iff φ qs lines k (line_at lines k)).0 (passed k h) in
       named_from (lines_derivable n fits follow) (lookup_names φ lines n r c e)

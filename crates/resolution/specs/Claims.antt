@@ -1,7 +1,6 @@
 -- What is claimed of S-resolution: that R.2 and R.3 are source document 004's, and 004's Lemma 3.1 and Corollary 3.2 in
 -- document 01's numbers. Assumes nothing.
-use Rattle.std.specs.Prelude.{ℕ, ◌+◌, ◌*◌, ◌<◌, ◌≡◌, ◌⊎◌, ◌↔◌, ◌≢◌, List, length, drop}
-use Rattle.std.proofs.Math.Option.{none, some}
+use Rattle.std.specs.Prelude.{ℕ, ◌+◌, ◌*◌, ◌<◌, ◌≡◌, ◌⊎◌, ◌↔◌, ◌≢◌, List, length, drop, None, Some}
 use Rattle.formula.specs.declared.Status.TheVariants.{Falsified, Satisfied}
 use Rattle.formula.specs.Formula.{clause_status, formula_status, ◌∈◌}
 use Rattle.formula.specs.Nodes.{Every}
@@ -30,4 +29,4 @@ Sound φ qs c =
 -- Corollary 3.2 of a derivation: where no line is refused, and the closing reference r names the empty clause with the
 -- value x, x is the figure
 abbrev pub ClosesWithFigure : List (List ℕ) → List Quantifier → List Line → ℕ → Type 0
-ClosesWithFigure φ qs lines r = (x : ℕ) → judge_lines φ qs lines ≡ none → closing_value φ lines r ≡ some x → figure φ qs ≡ x
+ClosesWithFigure φ qs lines r = (x : ℕ) → judge_lines φ qs lines ≡ None → closing_value φ lines r ≡ Some x → figure φ qs ≡ x

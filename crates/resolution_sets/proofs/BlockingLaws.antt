@@ -4,9 +4,9 @@
 -- is filled is in OccurrencesLaws. Assumes nothing.
 use mathlib.Core.Path.{◌≡◌, refl, sym, ap, ◌∙◌}
 use mathlib.Core.Logic.{◌↔◌}
-use mathlib.Core.Bool.{Bool, true, ◌&&◌, ◌||◌, or-true, or-false, or_assoc, or_comm}
+use mathlib.Core.Bool.{Bool, true, false, ◌&&◌, ◌||◌, or-true, or-false, or_assoc, or_comm}
 use mathlib.Core.List.{List, [], ◌∷◌, ◌++◌}
-use Prim.Native.Nat.{ℕ, ◌+◌, ◌-◌, ◌*◌, ◌/◌, ◌%◌, ◌^◌, ◌<◌}
+use Prim.Native.Nat.{ℕ, ◌+◌, ◌-◌, ◌*◌, ◌/◌, ◌%◌, ◌^◌, ◌≤◌, ◌<◌}
 use native.Mathlib.Nat.{mod-eq_of_lt, lt_of_le_of_lt}
 use native.Mathlib.Decide.{dec_lt}
 use native.Mathlib.Omega.{arith}
@@ -19,10 +19,10 @@ use Rattle.formula.specs.Formula.{opposite, some_of, member, ◌∈◌}
 use Rattle.formula.proofs.SomeLaws.{same_truth, some_of_append, all_by_places}
 use Rattle.formula.proofs.Membership.{and_iff, all_of_iff, some_of_iff, get_or_in}
 use Rattle.formula.proofs.OrderLaws.{opposite_is}
-use Rattle.bit_set.specs.BitSet.{has, including, mask, mask_onto}
-use Rattle.bit_set.proofs.BitSetLaws.{has_iff, onto_append}
-use Rattle.bit_set.proofs.DigitLaws.{all_lowest, lowest_is_least}
-use Rattle.bit_set.proofs.PartLaws.{has_union, has_within, has_from}
+use Rattle.bit_set.specs.BitSet.{has, including, from, mask, mask_onto}
+use Rattle.bit_set.proofs.BitSetLaws.{has_iff, has_none, onto_append}
+use Rattle.bit_set.proofs.DigitLaws.{all_lowest, lowest_is_least, has_both}
+use Rattle.bit_set.proofs.PartLaws.{has_union, has_within, has_from, from_has}
 use Rattle.resolution.specs.Resolution.{is_blocking}
 use Rattle.resolution_sets.specs.Occurrences.{has_clause, Occurrences, opposes}
 
@@ -71,14 +71,11 @@ pub record Joining (table : List ℕ) (words c seen set left : ℕ) : Type 0 whe
 pub joining_none : (table : List ℕ) (words c seen : ℕ) → c < 2 ^ 64 → Joining table words c seen seen c
 joining_none table words c seen fits = record { small = fits; says = λ x y e g h. ap (has seen h ||◌) (some_by_mask _ y x (sym g ∙ e)) }
 
--- where a literal is left: the least is next
+-- where a literal is left, the least is next
 module _ {table : List ℕ} {words c seen set left : ℕ} (p : Joining table words c seen set left) (some : 0 < left) where
-  pub next_small : opposite (count_trailing_zeros 64 left) < 64
-  next_small = opposite_small _ (lowest_is_least 64 left some p.small).0
-
-  pub joining_more : Joining table words c seen (bit_or set (get_or table (words + opposite (count_trailing_zeros 64 left)) 0)) (bit_and left (left - 1))
+  pub joining_more : {i : ℕ} → i ≡ words + opposite (count_trailing_zeros 64 left) → Joining table words c seen (bit_or set (get_or table i 0)) (bit_and left (left - 1))
   unfolding some_of mask_onto
-  joining_more =
+  joining_more {i} is =
       record {
         small = lt_of_le_of_lt (and_le_l left (left - 1)) p.small;
         says = λ x y e g h.
@@ -86,7 +83,7 @@ module _ {table : List ℕ} {words c seen set left : ℕ} (p : Joining table wor
             let f = opposes table words h in
             let joined : left ≡ mask (y ++ (t ∷ [])) =
             (lowest_is_least 64 left some p.small).1.joined ∙ ap (λ n. including n t) g ∙ sym (onto_append 0 y (t ∷ [])) in
-            ap (◌|| some_of f y) (has_union set (get_or table (words + opposite t) 0) h) ∙ or_assoc (has set h) (f t) (some_of f y)
+            ap (◌|| some_of f y) (has_union set (get_or table i 0) h ∙ ap (λ n. has set h || has (get_or table n 0) h) is) ∙ or_assoc (has set h) (f t) (some_of f y)
             ∙ ap (has set h ||◌) (or_comm (f t) (some_of f y) ∙ ap (some_of f y ||◌) (sym (or-false (f t))) ∙ sym (some_of_append f y (t ∷ [])))
             ∙ p.says x (y ++ (t ∷ [])) e joined h;
       }
@@ -95,6 +92,17 @@ pub joined_all : {table : List ℕ} {words c seen set left : ℕ} → Joining ta
     → has set h ≡ (has seen h || some_of (opposes table words h) x)
 unfolding some_of mask_onto
 joined_all {set} p none x e h = sym (or-false (has set h)) ∙ p.says x [] e none h
+
+-- a set that began empty
+pub joined_from_none : {table : List ℕ} {words c set left : ℕ} → Joining table words c 0 set left → left ≡ 0 → (x : List ℕ) → c ≡ mask x → (h : ℕ)
+    → has set h ≡ some_of (opposes table words h) x
+joined_from_none {table} {words} p none x e h = joined_all p none x e h ∙ ap (◌|| some_of (opposes table words h) x) (has_none h)
+
+-- what all four sets have
+pub in_all_four : (a b c d h : ℕ) {p q r s : Bool} → has a h ≡ p → has b h ≡ q → has c h ≡ r → has d h ≡ s
+    → has (bit_and (bit_and a b) (bit_and c d)) h ≡ ((p && q) && (r && s))
+in_all_four a b c d h ep eq er es =
+    has_both (bit_and a b) (bit_and c d) h ∙ (λ j. (has_both a b h ∙ (λ i. ep i && eq i)) j && (has_both c d h ∙ (λ i. er i && es i)) j)
 
 -- 64 and 256 clauses at a time
 
@@ -187,3 +195,59 @@ module _ (table x : List ℕ) (count passed r : ℕ) (aligned : passed % 64 ≡ 
               ),
             )),
       )
+
+-- The clauses passed, 256 or 64 at a time
+
+-- those passed are opposed, whatever list of literals has c for its set
+pub record Passed (table : List ℕ) (count c passed : ℕ) : Type 0 where
+  pub aligned : passed % 64 ≡ 0
+  pub small : c < 2 ^ 64
+  pub each : (x : List ℕ) → c ≡ mask x → (h : ℕ) → h < passed → h < count → Opposed table x h
+
+-- the answer b for a formula of `count` clauses
+abbrev pub AnswersBlocking : List ℕ → ℕ → ℕ → Bool → Type 0
+AnswersBlocking table count c b = (φ : List (List ℕ)) (x : List ℕ) → Occurrences φ table → length φ ≡ count → c ≡ mask x → b ≡ is_blocking φ x
+
+-- the next n clauses: the set r is full exactly where each of them is opposed
+module _ {table : List ℕ} {count c passed : ℕ} (p : Passed table count c passed) {r : ℕ} (n : ℕ) (even : n % 64 ≡ 0)
+    (full_iff : (x : List ℕ) → c ≡ mask x → (r ≡ 2 ^ 64 - 1) ↔ AllOpposed table x count passed n) where
+  pub more : r ≡ 2 ^ 64 - 1 → Passed table count c (passed + n)
+  more all = record { aligned = omega (arith, p.aligned); small = p.small; each = λ x e h k l. go x e h k l (dec_lt h passed) }
+    where
+      go : (x : List ℕ) → c ≡ mask x → (h : ℕ) → h < passed + n → h < count → Dec (h < passed) → Opposed table x h
+      go x e h k l (yes d) = p.each x e h d l
+      go x e h k l (no d) = let f : passed + (h - passed) ≡ h = omega arith in rw f at ((full_iff x e).0 all (h - passed) (omega arith) (omega arith))
+
+  pub refused : (r ≡ 2 ^ 64 - 1 → ⊥) → AnswersBlocking table count c false
+  refused not_full φ x are size e = go (is_blocking φ x) refl
+    where
+      go : (b : Bool) → is_blocking φ x ≡ b → false ≡ b
+      go true t = absurd (not_full ((full_iff x e).1 (λ h k l. (blocking_iff φ x table are (rw e at p.small)).0 t (passed + h) (omega arith))))
+      go false t = refl
+
+-- which a word tells, and four words, where `seen` has those past the last clause
+module _ {table : List ℕ} {count c passed seen r : ℕ} (p : Passed table count c passed) (small : r < 2 ^ 64) where
+  past : (n : ℕ) → seen ≡ from n → (h : ℕ) → h < 64 → has seen h ≡ leb n h
+  past n e h k = ap (λ s. has s h) e ∙ from_has n h k
+
+  pub word_full : seen ≡ from (count - passed)
+      → ((x : List ℕ) → c ≡ mask x → (h : ℕ) → has r h ≡ (has seen h || some_of (opposes table passed h) x))
+      → (x : List ℕ) → c ≡ mask x → (r ≡ 2 ^ 64 - 1) ↔ AllOpposed table x count passed 64
+  word_full is has_r x e =
+      block_iff table x count passed r p.aligned small (λ h k. has_r x e h ∙ ap (◌|| some_of (opposes table passed h) x) (past (count - passed) is h k))
+
+  pub four_full : passed + 192 < count → seen ≡ from (count - passed - 192)
+      → ((x : List ℕ) → c ≡ mask x → (h : ℕ) → has r h ≡ ((some_of (opposes table passed h) x && some_of (opposes table (passed + 64) h) x)
+      && (some_of (opposes table (passed + 128) h) x && (has seen h || some_of (opposes table (passed + 192) h) x))))
+      → (x : List ℕ) → c ≡ mask x → (r ≡ 2 ^ 64 - 1) ↔ AllOpposed table x count passed 256
+  four_full before is has_r x e =
+      let left : count - passed - 192 ≡ count - (passed + 192) = omega arith in
+      four_iff table x count passed r p.aligned small before
+      (λ h k. has_r x e h
+      ∙ ap (λ t. (some_of (opposes table passed h) x && some_of (opposes table (passed + 64) h) x)
+      && (some_of (opposes table (passed + 128) h) x && (t || some_of (opposes table (passed + 192) h) x)))
+      (past (count - (passed + 192)) (is ∙ ap from left) h k))
+
+pub over : {table : List ℕ} {count c passed : ℕ} → Passed table count c passed → count ≤ passed → AnswersBlocking table count c true
+over {table} p none φ x are size e =
+    sym ((blocking_iff φ x table are (rw e at p.small)).1 (λ h k. p.each x e h (omega arith) (omega arith)))

@@ -4,16 +4,18 @@
 use mathlib.Core.Path.{◌≡◌, refl, sym, ap, ◌∙◌}
 use mathlib.Core.Bool.{Bool, false, ◌&&◌, ◌||◌, or-true, or-false, or_assoc, and-true, and-false, and-or_distrib_left}
 use mathlib.Core.List.{List, []}
-use Prim.Native.Nat.{ℕ, ◌+◌, ◌*◌, ◌/◌, ◌%◌, ◌≤◌, ◌<◌}
+use Prim.Native.Nat.{ℕ, ◌+◌, ◌-◌, ◌*◌, ◌/◌, ◌%◌, ◌^◌, ◌≤◌, ◌<◌}
 use native.Mathlib.Decide.{ℕ_discrete, dec_lt}
 use native.Mathlib.Omega.{arith}
+use lib.Bits.{bit_and}
+use lib.Count.{count_trailing_zeros}
 use lib.Dec.{eqb, ltb}
 use lib.ListN.{length, get_or, set, replicate, length-set, length-replicate, get_or-replicate}
 use lib.Seq.{get_or-set_same, get_or-set_other}
 use borrow.Author.Tests.{eq-eqb, ne_eqb, lt-ltb, le-ltb}
 use Rattle.bit_set.specs.BitSet.{has, including, mask}
 use Rattle.bit_set.proofs.BitSetLaws.{has_none, has_including, has_mask}
-use Rattle.bit_set.proofs.DigitLaws.{Least}
+use Rattle.bit_set.proofs.DigitLaws.{Least, lowest_is_least}
 use Rattle.limits.specs.Limits.{max_clauses}
 use Rattle.resolution_sets.specs.Occurrences.{has_clause, Occurrences, OccurrencesByMask}
 
@@ -47,37 +49,38 @@ module _ (table : List ℕ) (j : ℕ) (size : length table ≡ max_clauses) (few
 
 -- All sets of a clause
 
--- what the table says under n, with the sets left, is what it said at the start, with all that clause j belongs to
-pub record PuttingClause (start : List ℕ) (j : ℕ) (all : ℕ → Bool) (n : ℕ) (table : List ℕ) (left : ℕ → Bool) : Type 0 where
-  pub size : length table ≡ max_clauses
-  pub says : (h l : ℕ) → l < n → (has_clause table h l || eqb h j && left l) ≡ (has_clause start h l || eqb h j && all l)
-
-pub put_none : {start : List ℕ} {j : ℕ} {all left : ℕ → Bool} {n : ℕ} → length start ≡ max_clauses → ((l : ℕ) → left l ≡ all l) → PuttingClause start j all n start left
-put_none {start} {j} size same = record { size = size; says = λ h l _. ap (λ t. has_clause start h l || eqb h j && t) (same l) }
-
-module _ {start : List ℕ} {j : ℕ} {all : ℕ → Bool} {n : ℕ} {table : List ℕ} {left : ℕ → Bool} (p : PuttingClause start j all n table left) where
-  -- y is the next one
-  pub put_more : n ≤ 64 → j < max_clauses → {y : ℕ} {later : ℕ → Bool} → y < 64 → ((l : ℕ) → (eqb l y || later l) ≡ left l) → PuttingClause start j all n (put_clause table j y) later
-  put_more few j< {y} {later} y< next =
-      record {
-        size = length-set table _ _ ∙ p.size;
-        says = λ h l l<.
-            ap (◌|| eqb h j && later l) (has_clause_put table j p.size j< {y = y} y< h l (omega arith))
-            ∙ or_assoc (has_clause table h l) (eqb h j && eqb l y) (eqb h j && later l)
-            ∙ ap (has_clause table h l ||◌) (sym (and-or_distrib_left (eqb h j) (eqb l y) (later l)) ∙ ap (eqb h j &&◌) (next l))
-            ∙ p.says h l l<;
-      }
-
-  pub put_all : ((l : ℕ) → l < n → left l ≡ false) → (h l : ℕ) → l < n → has_clause table h l ≡ (has_clause start h l || eqb h j && all l)
-  put_all over h l l< = sym (rw (over l l<, and-false, or-false)) ∙ p.says h l l<
-
 -- the numbers of a set, least first
-pub member_next : {s t rest : ℕ} → Least s t rest → (l : ℕ) → (eqb l t || has rest l) ≡ has s l
+member_next : {s t rest : ℕ} → Least s t rest → (l : ℕ) → (eqb l t || has rest l) ≡ has s l
 member_next {s} {t} {rest} least l = sym (ap (λ n. has n l) least.joined ∙ has_including rest t l ∙ go (ℕ_discrete l t))
   where
     go : Dec (l ≡ t) → (has rest l || eqb t l) ≡ (eqb l t || has rest l)
     go (yes e) = rw (eq-eqb l t e, eq-eqb t l (sym e), or-true)
     go (no n) = rw (ne_eqb l t n, ne_eqb t l (λ e. n (sym e)), or-false)
+
+-- what the table says, with the numbers left, is what it said at the start, with all numbers of the set
+pub record PuttingClause (start : List ℕ) (j set : ℕ) (table : List ℕ) (left : ℕ) : Type 0 where
+  pub size : length table ≡ max_clauses
+  pub says : (h l : ℕ) → l < 64 → (has_clause table h l || eqb h j && has left l) ≡ (has_clause start h l || eqb h j && has set l)
+
+module _ {start table : List ℕ} {j set left : ℕ} (p : PuttingClause start j set table left) where
+  -- the least number left is put in
+  pub put_least : j < max_clauses → 0 < left → left < 2 ^ 64
+      → PuttingClause start j set (put_clause table j (count_trailing_zeros 64 left)) (bit_and left (left - 1))
+  put_least j< some small =
+      let (least<, least) = lowest_is_least 64 left some small in
+      let y = count_trailing_zeros 64 left in
+      let later = bit_and left (left - 1) in
+      record {
+        size = length-set table _ _ ∙ p.size;
+        says = λ h l l<.
+            ap (◌|| eqb h j && has later l) (has_clause_put table j p.size j< {y = y} least< h l l<)
+            ∙ or_assoc (has_clause table h l) (eqb h j && eqb l y) (eqb h j && has later l)
+            ∙ ap (has_clause table h l ||◌) (sym (and-or_distrib_left (eqb h j) (eqb l y) (has later l)) ∙ ap (eqb h j &&◌) (member_next least l))
+            ∙ p.says h l l<;
+      }
+
+  pub put_over : left ≡ 0 → (h l : ℕ) → l < 64 → has_clause table h l ≡ (has_clause start h l || eqb h j && has set l)
+  put_over none h l l< = sym (rw (none, has_none l, and-false, or-false)) ∙ p.says h l l<
 
 -- The clauses one at a time
 
@@ -107,9 +110,6 @@ module _ {own : ℕ → ℕ → Bool} {n : ℕ} where
 
   pub filled_all : {j count : ℕ} {table : List ℕ} → count ≤ max_clauses → count ≤ j → FilledTable own n j table → (h i : ℕ) → h < count → i < n → has_clause table h i ≡ own h i
   filled_all {j} few all f h i h< i< = f.says h i (omega arith) i< ∙ rw (lt-ltb h j (omega arith))
-
-  pub filled_past : {j : ℕ} {table : List ℕ} → FilledTable own n j table → (h i : ℕ) → j ≤ h → h < max_clauses → i < n → has_clause table h i ≡ false
-  filled_past {j} f h i most h< i< = f.says h i h< i< ∙ rw (le-ltb h j most)
 
 -- Clauses and their masks
 

@@ -3,10 +3,10 @@
 -- membership and masks (bit_set's BitSetLaws). Assumes nothing.
 use mathlib.Core.Path.{◌≡◌, refl, sym, ◌∙◌}
 use mathlib.Core.Logic.{◌↔◌, ◌≢◌, ⊎_elim, ⊎_map}
-use mathlib.Core.Bool.{Bool, true, false}
+use mathlib.Core.Bool.{Bool, true, false, false≢true}
 use mathlib.Core.List.Memᴰ
 use mathlib.Core.List.{List}
-use Prim.Native.Nat.{ℕ, zero, suc, ◌+◌, ◌-◌, ◌*◌, ◌/◌, ◌^◌, ◌≤◌, ◌<◌}
+use Prim.Native.Nat.{ℕ, zero, suc, ◌+◌, ◌-◌, ◌*◌, ◌/◌, ◌%◌, ◌^◌, ◌≤◌, ◌<◌}
 use native.Mathlib.Nat.{add-zero, pow-suc, lt_of_not-le}
 use native.Mathlib.Decide.{ℕ_discrete, dec_lt}
 use native.Mathlib.Omega.{arith}
@@ -20,7 +20,7 @@ use Rattle.formula.proofs.SomeLaws.{same_truth, some_of_append}
 use Rattle.formula.proofs.OrderLaws.{ordered_ascends, ordered_one_of_each, rising_member, rising_ascends}
 use Rattle.formula.proofs.Membership.{member_iff, not_member_iff}
 use Rattle.bit_set.specs.BitSet.{has, mask}
-use Rattle.bit_set.proofs.BitSetLaws.{has_mask, has_iff, same_mask_iff, mask_small}
+use Rattle.bit_set.proofs.BitSetLaws.{has_mask, has_iff, same_mask_iff, mask_small, shifted_one}
 use Rattle.bit_set.proofs.DigitLaws.{same_digits, shifted_single}
 use Rattle.bit_set.proofs.PartLaws.{has_union, has_within, has_highest, has_part, has_past}
 use Rattle.resolution.specs.Resolution.{level, remainder, Resolves, is_resolvent}
@@ -134,11 +134,22 @@ module _ (v : ℕ) (x y z : List ℕ) (x_small : mask x < 2 ^ 64) (y_small : mas
             (p, (q, same.1 r.others ∙ sym (joined_is p q))),
       )
 
--- so an answer that is true exactly where the sets pass is R.3's
-pub resolvent_by_sets :
-    (v s t c : ℕ) → s < 2 ^ 64 → t < 2 ^ 64 → (b : Bool) → (b ≡ true) ↔ SetsResolve v s t c
-    → (x y z : List ℕ) → s ≡ mask x → t ≡ mask y → c ≡ mask z → unordered x ≡ false → unordered y ≡ false → unordered z ≡ false
-    → b ≡ is_resolvent v x y z
-resolvent_by_sets v s t c s_small t_small b test x y z p q r x_ordered y_ordered z_ordered =
-    let sets = sets_iff v x y z (omega arith) (omega arith) x_ordered y_ordered z_ordered in
-    same_truth (simp (resolves_iff, ← sets) (rw (p, q, r) at test))
+-- so R.3's test is that of the sets, one after another
+module _ (v s t c : ℕ) (s_small : s < 2 ^ 64) (t_small : t < 2 ^ 64) (x y z : List ℕ) (s_is : s ≡ mask x) (t_is : t ≡ mask y) (c_is : c ≡ mask z)
+    (x_ordered : unordered x ≡ false) (y_ordered : unordered y ≡ false) (z_ordered : unordered z ≡ false) where
+  by_sets : (b : Bool) → (b ≡ true) ↔ SetsResolve v s t c → is_resolvent v x y z ≡ b
+  by_sets b test =
+      let sets = sets_iff v x y z (omega arith) (omega arith) x_ordered y_ordered z_ordered in
+      sym (same_truth (simp (resolves_iff, ← sets) (rw (s_is, t_is, c_is) at test)))
+
+  pub no_true_side : s / 2 ^ (2 * v) ≢ 2 → is_resolvent v x y z ≡ false
+  no_true_side n = by_sets false (λ e. absurd (false≢true e), λ h. absurd (n h.0))
+
+  pub no_false_side : t / 2 ^ (2 * v) ≢ 1 → is_resolvent v x y z ≡ false
+  no_false_side n = by_sets false (λ e. absurd (false≢true e), λ h. absurd (n h.1.0))
+
+  pub both_sides : 2 * v < 64 → s / 2 ^ (2 * v) ≡ 2 → t / 2 ^ (2 * v) ≡ 1
+      → is_resolvent v x y z ≡ eqb c (bit_and (bit_or s t) (1 * 2 ^ (2 * v) % 2 ^ 64 - 1))
+  both_sides small p q = rw (shifted_one (2 * v) small) (by_sets _ (λ e. (p, (q, eqb-true _ _ e)), λ h. eq-eqb _ _ h.1.1))
+
+pub ruleset resolvent_sets = (no_true_side, no_false_side, both_sides)

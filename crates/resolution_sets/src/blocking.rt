@@ -49,11 +49,11 @@ fn opposed_in_four(table: &[u64; OCCURRENCES], words: usize, c: u64, seen: u64) 
 }
 
 // Whether each of the clauses, whose occurrences are in the table, contains the opposite of some literal of c: 256
-// clauses at a time, the last ones 64 at a time, and those past the last one taken for opposed.
+// clauses at a time, the last ones 64 at a time, so that no range counts the steps, and those past the last one taken
+// for opposed.
 pub fn is_blocking(table: &[u64; OCCURRENCES], clauses: usize, c: u64) -> bool
     requires { clauses ≤ max_clauses }
     ensures by_index { (φ : List (List ℕ)) (x : List ℕ) → Occurrences φ table.now → length φ ≡ clauses → c ≡ mask x → result ≡ is_blocking φ x }
-    ensures unchanged { table.now ≡ table.now }
 {
     let mut passed = 0;
     while passed < clauses {

@@ -11,5 +11,5 @@ mod resolvent;
 pub use blocking::is_blocking;
 pub use clause::level;
 pub use denominator::{denominator_between, denominators};
-pub use occurrence::{OCCURRENCES, put_occurrences};
+pub use occurrence::{OCCURRENCES, put_clause, put_occurrences};
 pub use resolvent::is_resolvent;

@@ -10,17 +10,12 @@ ghost use Rattle.limits.specs.Limits.{max_variables};
 // false-side parent with the set t. Of the variables from v on, a parent has its one literal of v, which a shift shows:
 // none stands twice in it. The other literals are those below. Where variables rise, a clause says no more than its
 // set.
+#[tactic(auto, using(crate::proofs::SetLaws::resolvent_sets))]
 pub fn is_resolvent(v: usize, s: u64, t: u64, c: u64) -> bool
     requires { v < max_variables }
     ensures { (x y z : List ℕ) → s ≡ mask x → t ≡ mask y → c ≡ mask z → unordered x ≡ false → unordered y ≡ false → unordered z ≡ false → result ≡ is_resolvent v x y z }
 {
     let first = 2 * v;
-    if s >> first != 2 {
-        return false;
-    }
-    if t >> first != 1 {
-        return false;
-    }
     let one: u64 = 1;
-    c == (s | t) & ((one << first) - 1)
+    s >> first == 2 && t >> first == 1 && c == (s | t) & ((one << first) - 1)
 }

@@ -1,27 +1,26 @@
--- Within any limits a file is answered exactly where it is accepted, and then by its header; and what a caller of
--- `read` knows by the case of its answer. Assumes nothing.
-use mathlib.Core.Path.{◌≡◌, sym, ap, ◌∙◌}
+-- Within any limits a file is answered exactly where it is accepted, and then by its header. Assumes nothing.
+use Rattle.std.specs.Prelude.{Err, Ok}
+use mathlib.Core.Path.{◌≡◌, sym}
 use mathlib.Core.List.{List}
 use Prim.Native.Nat.{ℕ}
 use Rattle.formula.specs.Formula.{repeats, unordered}
 use Rattle.limits.specs.Limits.{rule_trailer}
-use Rattle.answer.specs.Answer.{Answer, refused, answer, and_then}
+use Rattle.answer.specs.Answer.{Answer, and_then}
 use Rattle.answer.specs.declared.Refusal.{Refusal}
+use Rattle.answer.specs.declared.Refusal.TheVariants as refusal
 use Rattle.answer.proofs.AnswerLaws.{same_answer, passed, passed_at}
 use Rattle.words.specs.Walk.{first}
 use Rattle.words.proofs.WalkLaws.{first_none, none_first_place}
 use Rattle.words.proofs.WordsLaws.{right_length}
 use Rattle.rule_file.specs.ReaderLimits.{full_limits, stored_limits}
 use Rattle.rule_file.specs.RuleFile.{clauses}
-use Rattle.rule_file.specs.Reader.{reading, read_file, read_within, read_from_3, read_from_5, read_from_6, read_from_26, read_from_8, asked}
+use Rattle.rule_file.specs.Reader.{read_file, read_within, read_from_3, read_from_5, read_from_6, read_from_26, read_from_8, asked}
 use Rattle.rule_file.specs.Accepted.{AcceptedWithin, Accepted, header}
 use Rattle.rule_file.specs.declared.Limits.{Limits}
 use Rattle.rule_file.specs.declared.Header.{Header}
-use Rattle.rule_file.specs.declared.Reading.{Reading}
-use Rattle.rule_file.specs.declared.Reading.TheVariants as reading_variants
 use Rattle.rule_file.proofs.ReaderLaws.{check_2, check_3, check_4, check_9, asked_once, not_asked, copies_not_asked}
 
-pub answered_within : (limits : Limits) (b : List ℕ) (h : Header) → read_within limits b ≡ answer h → AcceptedWithin limits b × (h ≡ header b)
+pub answered_within : (limits : Limits) (b : List ℕ) (h : Header) → read_within limits b ≡ Ok h → AcceptedWithin limits b × (h ≡ header b)
 unfolding read_within read_from_3 read_from_5 read_from_6 read_from_26 read_from_8
 answered_within limits b h e =
     let (e₁, r₁) = passed _ _ _ h e in
@@ -30,7 +29,7 @@ answered_within limits b h e =
     let (e₄, r₄) = passed _ _ _ h r₃ in
     let (e₅, r₅) = passed_at _ _ _ h r₄ in
     let (e₆, r₆) = passed_at _ _ _ h r₅ in
-    let (_, r₇) = passed_at (first (asked limits.ordered repeats) (clauses b)) 7 _ h r₆ in
+    let (_, r₇) = passed_at (first (asked limits.ordered repeats) (clauses b)) refusal.RepeatedVariable _ h r₆ in
     let (e₂₃, r₂₃) = passed_at _ _ _ h r₇ in
     let (e₂₆, r₂₆) = passed_at _ _ _ h r₂₃ in
     let (e₈, r₈) = passed_at _ _ _ h r₂₆ in
@@ -52,7 +51,7 @@ answered_within limits b h e =
       same_answer h (header b) (sym r₉),
     )
 
-pub within_answers : (limits : Limits) (b : List ℕ) → AcceptedWithin limits b → read_within limits b ≡ answer (header b)
+pub within_answers : (limits : Limits) (b : List ℕ) → AcceptedWithin limits b → read_within limits b ≡ Ok (header b)
 unfolding read_within read_from_3 read_from_5 read_from_6 read_from_26 read_from_8
 within_answers limits b a =
     rw (
@@ -70,11 +69,11 @@ within_answers limits b a =
     )
 
 -- the same of the full reader
-pub answered : (b : List ℕ) (h : Header) → read_file b ≡ answer h → Accepted b × (h ≡ header b)
+pub answered : (b : List ℕ) (h : Header) → read_file b ≡ Ok h → Accepted b × (h ≡ header b)
 unfolding read_file
 answered = answered_within full_limits
 
-pub accepted_answers : (b : List ℕ) → Accepted b → read_file b ≡ answer (header b)
+pub accepted_answers : (b : List ℕ) → Accepted b → read_file b ≡ Ok (header b)
 unfolding read_file
 accepted_answers = within_answers full_limits
 
@@ -95,18 +94,10 @@ stored_accepts b a =
       bounded = a.bounded;
     }
 
--- what the reader answered, for a caller that goes by the case of it
-module _ (b : List ℕ) (r : Reading) where
-  pub reading_refused : (k : Refusal) → reading r ≡ read_file b → r ≡ reading_variants.Refused k → read_file b ≡ refused k
-  reading_refused k e c = sym e ∙ ap reading c
-
-  pub reading_accepted : (h : Header) → reading r ≡ read_file b → r ≡ reading_variants.Accepted h → Accepted b × (h ≡ header b)
-  reading_accepted h e c = answered b h (sym e ∙ ap reading c)
-
 -- an operation that goes on from the reader's answer: of a refused file it answers the refusal, of an accepted one what
 -- it goes on with
 module _ {A : Type 0} (b : List ℕ) (f : Header → Answer A) where
-  pub then_refused : (k : Refusal) → read_file b ≡ refused k → refused k ≡ and_then (read_file b) f
+  pub then_refused : (k : Refusal) → read_file b ≡ Err k → Err k ≡ and_then (read_file b) f
   then_refused k e = rw e
 
   pub then_accepted : Accepted b → f (header b) ≡ and_then (read_file b) f

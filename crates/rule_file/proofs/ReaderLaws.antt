@@ -1,10 +1,10 @@
 -- The reader's answer, one check at a time: checks 1 to 4 and 9 with the fact that each decides, then what checks 5 to
--- 8 speak of by the counts that a Trailer holds, 6, 7 and 23 at once, and what is left after 4 and after 23. What the
+-- 8 speak of by the counts that a trailer holds, and 6, 7 and 23 at once. What the
 -- checks over clauses and variables say is in ClauseLaws and PrefixLaws. Assumes nothing.
-use mathlib.Core.Path.{◌≡◌, refl, ap, subst}
+use Rattle.std.specs.Prelude.{Err, Ok, None, Some}
+use mathlib.Core.Path.{◌≡◌, refl, sym, ap, ◌∙◌}
 use mathlib.Core.Bool.{Bool, true, false}
 use mathlib.Core.List.{List, [], ◌∷◌}
-use mathlib.Core.Option.{none}
 use Prim.Native.Nat.{ℕ, ◌+◌, ◌-◌, ◌*◌, ◌≤◌}
 use native.Mathlib.Omega.{arith}
 use borrow.Author.Tests.{le-ltb, ltb-false}
@@ -12,26 +12,21 @@ use Rattle.formula.specs.Formula.{some_of, out_of_range, repeats, unordered, ill
 use Rattle.formula.specs.Quantifier.{denominator}
 use Rattle.formula.proofs.SomeLaws.{or_false, none_implied}
 use Rattle.formula.proofs.OrderLaws.{ordered_no_repeats}
+use Rattle.answer.specs.declared.Refusal.TheVariants as refusal
 use Rattle.limits.specs.Limits.{max_clauses, max_whole}
-use Rattle.answer.specs.Answer.{Answer, refused}
-use Rattle.answer.specs.declared.Refusal.{Refusal}
 use Rattle.words.specs.Walk.{first, first_copy}
 use Rattle.words.specs.Words.{word_count, stated_count}
 use Rattle.words.proofs.WalkLaws.{first_none, none_first_place, first_either}
 use Rattle.words.proofs.FirstCopyLaws.{none_same}
 use Rattle.words.proofs.WordsLaws.{Decides, differs}
 use Rattle.prefix_words.specs.Prefix.{prefix_from, malformed}
-use Rattle.clause_words.specs.Clauses.{clauses_from, walk_clauses}
-use Rattle.clause_words.specs.ClauseChecks.{clause_fails}
-use Rattle.clause_words.specs.declared.ClauseCheck.TheVariants.{OutOfRange, Repeats, IllFormed}
-use Rattle.clause_words.proofs.ClauseLaws.{walked_clause}
+use Rattle.clause_words.specs.Clauses.{clauses_from, walk_clauses, ClausesWithin}
+use Rattle.clause_words.proofs.ClauseLaws.{walked_within}
 use Rattle.copies.specs.Copies.{InOrder}
 use Rattle.rule_file.specs.RuleFile.{clause_count, variable_count, prefix_start, clauses, prefix, whole}
-use Rattle.rule_file.specs.Checks.{Trailer, AfterChecks}
-use Rattle.rule_file.specs.declared.Header.{Header}
-use Rattle.rule_file.specs.declared.TrailerReading.{TrailerReading}
-use Rattle.rule_file.specs.declared.TrailerReading.TheVariants as trailer_reading
-use Rattle.rule_file.specs.Reader.{wrong_count, too_many, wrong_prefix, too_large, asked}
+use Rattle.rule_file.specs.Checks.{TrailerOf, ClausesRead}
+use Rattle.rule_file.specs.declared.Trailer.{Trailer}
+use Rattle.rule_file.specs.Reader.{read_from_6, wrong_count, too_many, wrong_prefix, too_large, asked}
 
 pub check_2 : (b : List ℕ) → Decides (wrong_count b) (stated_count b ≡ word_count b)
 unfolding wrong_count
@@ -50,43 +45,43 @@ pub check_9 : (b : List ℕ) → Decides (too_large b) (whole b ≤ max_whole)
 unfolding too_large
 check_9 b = (ltb-false _ _, le-ltb _ _)
 
-module _ (b : List ℕ) (m n start : ℕ) (t : Trailer b m n start) where
-  pub walk_is : walk_clauses b (variable_count b) (prefix_start b) (clause_count b) 0 ≡ walk_clauses b n start m 0
+module _ (b : List ℕ) (trailer : Trailer) (t : TrailerOf b trailer) where
+  pub walk_is : walk_clauses b (variable_count b) (prefix_start b) (clause_count b) 0 ≡ walk_clauses b trailer.variables trailer.prefix trailer.clauses 0
   walk_is = rw (← t.variable_count_is, ← t.prefix_start_is, ← t.clause_count_is)
 
-  pub check_6 : first (out_of_range (variable_count b)) (clauses b) ≡ first (clause_fails n OutOfRange) (clauses_from b m 0)
-  unfolding clause_fails
+  pub check_6 : first (out_of_range (variable_count b)) (clauses b) ≡ first (out_of_range trailer.variables) (clauses_from b trailer.clauses 0)
   check_6 = rw (← t.variable_count_is, ← t.clause_count_is)
 
-  pub check_7 : first repeats (clauses b) ≡ first (clause_fails n Repeats) (clauses_from b m 0)
-  unfolding clause_fails
+  pub check_7 : first repeats (clauses b) ≡ first repeats (clauses_from b trailer.clauses 0)
   check_7 = rw (← t.clause_count_is)
 
   -- 6, 7 and 23 at once
-  pub check_literals : first (ill_formed (variable_count b)) (clauses b) ≡ first (clause_fails n IllFormed) (clauses_from b m 0)
-  unfolding clause_fails
+  pub check_literals : first (ill_formed (variable_count b)) (clauses b) ≡ first (ill_formed trailer.variables) (clauses_from b trailer.clauses 0)
   check_literals = rw (← t.variable_count_is, ← t.clause_count_is)
 
-  pub check_26 : first_copy equal (clauses b) ≡ first_copy equal (clauses_from b m 0)
+  pub check_26 : first_copy equal (clauses b) ≡ first_copy equal (clauses_from b trailer.clauses 0)
   check_26 = rw (← t.clause_count_is)
 
+  -- what 5 leaves for the checks over clauses
+  pub read_within_file : walk_clauses b trailer.variables trailer.prefix trailer.clauses 0 ≡ None → ClausesWithin b trailer.clauses
+  read_within_file = walked_within b trailer.variables trailer.prefix trailer.clauses (omega (arith, t.ends))
+
   -- what 5, 6, 7 and 23 leave for 26
-  pub read_in_order : walk_clauses b n start m 0 ≡ none → first (clause_fails n IllFormed) (clauses_from b m 0) ≡ none → InOrder b n m
-  unfolding clause_fails
+  pub read_in_order : walk_clauses b trailer.variables trailer.prefix trailer.clauses 0 ≡ None → first (ill_formed trailer.variables) (clauses_from b trailer.clauses 0) ≡ None → InOrder b trailer.variables trailer.clauses
   read_in_order walked passed = record {
-    within = record { each = λ j h. omega (arith, (walked_clause b n start m walked j h).ends, t.ends) };
+    within = read_within_file walked;
     few_variables = t.few_variables;
     few_clauses = t.few_clauses;
     well_formed = first_none _ _ passed;
   }
 
-  prefix_is : prefix b ≡ prefix_from b n start
+  prefix_is : prefix b ≡ prefix_from b trailer.variables trailer.prefix
   prefix_is = rw (← t.variable_count_is, ← t.prefix_start_is)
 
-  pub check_8 : first malformed (prefix b) ≡ first malformed (prefix_from b n start)
+  pub check_8 : first malformed (prefix b) ≡ first malformed (prefix_from b trailer.variables trailer.prefix)
   check_8 = ap (first malformed) prefix_is
 
-  pub whole_is : whole b ≡ denominator (prefix_from b n start)
+  pub whole_is : whole b ≡ denominator (prefix_from b trailer.variables trailer.prefix)
   whole_is = ap denominator prefix_is
 
 -- where the variables of each clause rise, none stands twice in a clause
@@ -99,13 +94,13 @@ asked_once true φ e = ordered_once φ e
 asked_once false φ e = e
 
 -- a check that is not asked finds nothing
-pub not_asked : (f : List ℕ → Bool) (φ : List (List ℕ)) → first (asked false f) φ ≡ none
+pub not_asked : (f : List ℕ → Bool) (φ : List (List ℕ)) → first (asked false f) φ ≡ None
 unfolding first
 not_asked f [] = refl
 not_asked f (c ∷ φ) = rw (not_asked f φ)
 
 -- nor does the search for a copy
-pub copies_not_asked : (φ : List (List ℕ)) → first_copy (λ c. asked false (equal c)) φ ≡ none
+pub copies_not_asked : (φ : List (List ℕ)) → first_copy (λ c. asked false (equal c)) φ ≡ None
 copies_not_asked = none_same _ (λ _ _. refl) []
 
 -- 6, 7 and 23 at once: where no clause is ill-formed each is in order, and all three pass
@@ -114,7 +109,7 @@ module _ (n : ℕ) (φ : List (List ℕ)) where
   unfolding ill_formed
   well_formed_ordered = none_implied (ill_formed n) unordered (λ c f. (or_false (out_of_range n c) (unordered c) f).1) φ
 
-  pub well_formed_pass : first (ill_formed n) φ ≡ none → (first (out_of_range n) φ ≡ none) × (first repeats φ ≡ none) × (first unordered φ ≡ none)
+  pub well_formed_pass : first (ill_formed n) φ ≡ None → (first (out_of_range n) φ ≡ None) × (first repeats φ ≡ None) × (first unordered φ ≡ None)
   unfolding ill_formed
   well_formed_pass e =
       let none_fails = first_none (ill_formed n) φ e in
@@ -125,14 +120,37 @@ module _ (n : ℕ) (φ : List (List ℕ)) where
       )
 
   -- and where 6 passes, the first that is ill-formed is the first that is unordered
-  pub ill_formed_unordered : first (out_of_range n) φ ≡ none → first (ill_formed n) φ ≡ first unordered φ
+  pub ill_formed_unordered : first (out_of_range n) φ ≡ None → first (ill_formed n) φ ≡ first unordered φ
   unfolding ill_formed
   ill_formed_unordered e = first_either (out_of_range n) unordered φ (first_none (out_of_range n) φ e)
 
--- what checks leave, for a caller that goes by the case of it
-module _ (known : ℕ → ℕ → ℕ → Type 0) (whole : Answer Header) {r : TrailerReading} (e : AfterChecks known whole r) where
-  pub checks_refused : {k : Refusal} → r ≡ trailer_reading.Refused k → whole ≡ refused k
-  checks_refused c = subst (AfterChecks known whole) c e
+-- what is answered from 6 on, where 5 passes, by what the code finds: no clause that is ill-formed; or the first that
+-- fails 6, the first that fails 7, and the first that is ill-formed
+module _ (b : List ℕ) (trailer : Trailer) (t : TrailerOf b trailer) where
+  pub all_well_formed :
+      walk_clauses b trailer.variables trailer.prefix trailer.clauses 0 ≡ None → None ≡ first (ill_formed trailer.variables) (clauses_from b trailer.clauses 0) →
+      ClausesRead b (read_from_6 true b) (Ok trailer)
+  unfolding read_from_6
+  all_well_formed walked passed =
+      let (six, seven, twenty_three) = well_formed_pass _ _ (check_literals b trailer t ∙ sym passed) in
+      (t, read_in_order b trailer t walked (sym passed), rw (six, seven, twenty_three))
 
-  pub checks_passed : {m n start : ℕ} → r ≡ trailer_reading.Passed m n start → known m n start
-  checks_passed c = subst (AfterChecks known whole) c e
+  pub refused_by_6 : (clause : ℕ) → Some clause ≡ first (out_of_range trailer.variables) (clauses_from b trailer.clauses 0) → read_from_6 true b ≡ Err (refusal.LiteralOutOfRange clause)
+  unfolding read_from_6
+  refused_by_6 clause e = rw (check_6 b trailer t ∙ sym e)
+
+  module _ (six : None ≡ first (out_of_range trailer.variables) (clauses_from b trailer.clauses 0)) where
+    pub refused_by_7 : (clause : ℕ) → Some clause ≡ first repeats (clauses_from b trailer.clauses 0) → read_from_6 true b ≡ Err (refusal.RepeatedVariable clause)
+    unfolding read_from_6
+    refused_by_7 clause e = rw (check_6 b trailer t ∙ sym six, check_7 b trailer t ∙ sym e)
+
+    pub refused_by_23 :
+        (clause : ℕ) → None ≡ first repeats (clauses_from b trailer.clauses 0) → Some clause ≡ first (ill_formed trailer.variables) (clauses_from b trailer.clauses 0) →
+        read_from_6 true b ≡ Err (refusal.UnorderedVariables clause)
+    unfolding read_from_6
+    refused_by_23 clause seven e =
+        let none : first (out_of_range (variable_count b)) (clauses b) ≡ None = check_6 b trailer t ∙ sym six in
+        rw (none, check_7 b trailer t ∙ sym seven, sym (ill_formed_unordered _ _ none) ∙ check_literals b trailer t ∙ sym e)
+
+-- what the code that tells 6, 7 and 23 apart needs
+pub ruleset literal_checks = (read_within_file, refused_by_6, refused_by_7, refused_by_23)

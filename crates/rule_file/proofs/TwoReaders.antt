@@ -1,5 +1,6 @@
 -- Two readers, one chain of checks within other limits: where they agree, and what the one with the tighter limits
 -- refuses beside. Over any limits, and then of the full reader and the small one. Assumes nothing.
+use Rattle.std.specs.Prelude.{Err, Ok}
 use mathlib.Core.Path.{◌≡◌, refl, sym, ◌∙◌}
 use mathlib.Core.Bool.{Bool, true, false}
 use mathlib.Core.Logic.{◌⊎◌, inl, inr, ◌↔◌}
@@ -10,8 +11,7 @@ use native.Mathlib.Decide.{dec_le}
 use lib.Dec.{lit≤}
 use lib.ListN.{length}
 use Rattle.limits.specs.Limits.{rule_trailer}
-use Rattle.answer.specs.Answer.{refused, answer}
-use Rattle.answer.specs.declared.Refusal.TheVariants.{Alone}
+use Rattle.answer.specs.declared.Refusal.TheVariants as refusal
 use Rattle.words.specs.Words.{wrong_length}
 use Rattle.words.proofs.WordsLaws.{fails, decides_same, right_length}
 use Rattle.rule_file.specs.ReaderLimits.{full_limits, small_limits}
@@ -50,7 +50,7 @@ module _ (k l : Limits) (tighter : Tighter k l) (b : List ℕ) where
       rw (same_lengths w.few_bytes, same_count k.variables l.variables b few (le_trans few tighter.variables), tighter.ordered)
 
   -- a file that is too long is refused by 1, whatever else is wrong
-  refused_by_1 : k.bytes < length b → read_within k b ≡ refused (Alone 1)
+  refused_by_1 : k.bytes < length b → read_within k b ≡ Err refusal.FileLength
   unfolding read_within
   refused_by_1 h = rw (fails (right_length rule_trailer k.bytes b) (λ r. not-le_of_lt h r.at_most))
 
@@ -74,18 +74,18 @@ module _ (k l : Limits) (tighter : Tighter k l) (b : List ℕ) where
       by_length (yes p) (no q) = refused_by_3 p (lt_of_not-le q) _ _ refl refl
 
   -- it accepts what the other accepts within its limits
-  pub accepts_within : (h : Header) → (read_within k b ≡ answer h) ↔ ((read_within l b ≡ answer h) × WithinLimits k b)
+  pub accepts_within : (h : Header) → (read_within k b ≡ Ok h) ↔ ((read_within l b ≡ Ok h) × WithinLimits k b)
   accepts_within h = (
     λ e. let w = accepted_is_within k b (answered_within k b h e).0 in (sym (same_within w) ∙ e, w),
     λ (e, w). same_within w ∙ e,
   )
 
   -- and refuses by 1 or 3 what the other accepts beyond them
-  pub refuses_beyond : (h : Header) → read_within l b ≡ answer h → ¬ WithinLimits k b
-      → (read_within k b ≡ refused (Alone 1)) ⊎ (read_within k b ≡ refused (Alone 3))
+  pub refuses_beyond : (h : Header) → read_within l b ≡ Ok h → ¬ WithinLimits k b
+      → (read_within k b ≡ Err refusal.FileLength) ⊎ (read_within k b ≡ Err refusal.TooMany)
   refuses_beyond h e beyond = by_case compare
     where
-      by_case : Compared k b (read_within k b) (read_within l b) → (read_within k b ≡ refused (Alone 1)) ⊎ (read_within k b ≡ refused (Alone 3))
+      by_case : Compared k b (read_within k b) (read_within l b) → (read_within k b ≡ Err refusal.FileLength) ⊎ (read_within k b ≡ Err refusal.TooMany)
       by_case (agree r) = absurd (beyond ((accepts_within h).0 (r ∙ e)).1)
       by_case (over_bytes _ r) = inl r
       by_case (over_variables _ _ _ r) = inr r
@@ -100,12 +100,12 @@ module _ (b : List ℕ) where
   unfolding read_small read_file
   small_same = same_within small_limits full_limits small_is_tighter b
 
-  pub small_accepts : (h : Header) → (read_small b ≡ answer h) ↔ ((read_file b ≡ answer h) × WithinLimits small_limits b)
+  pub small_accepts : (h : Header) → (read_small b ≡ Ok h) ↔ ((read_file b ≡ Ok h) × WithinLimits small_limits b)
   unfolding read_small read_file
   small_accepts = accepts_within small_limits full_limits small_is_tighter b
 
-  pub small_refuses : (h : Header) → read_file b ≡ answer h → ¬ WithinLimits small_limits b
-      → (read_small b ≡ refused (Alone 1)) ⊎ (read_small b ≡ refused (Alone 3))
+  pub small_refuses : (h : Header) → read_file b ≡ Ok h → ¬ WithinLimits small_limits b
+      → (read_small b ≡ Err refusal.FileLength) ⊎ (read_small b ≡ Err refusal.TooMany)
   unfolding read_small read_file
   small_refuses = refuses_beyond small_limits full_limits small_is_tighter b
 

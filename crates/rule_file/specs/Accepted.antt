@@ -1,7 +1,6 @@
 -- What a reader's checks leave true of a file: what the layers above are given, of the full reader. That it is
 -- exactly the reader's acceptance is proved. Assumes nothing.
-use Rattle.std.specs.Prelude.{◌≡◌, false, List, ℕ, ◌+◌, ◌-◌, ◌*◌, ◌≤◌}
-use Rattle.std.proofs.Math.Option.{none}
+use Rattle.std.specs.Prelude.{◌≡◌, false, List, ℕ, ◌+◌, ◌-◌, ◌*◌, ◌≤◌, None}
 use Rattle.formula.specs.Formula.{some_of, out_of_range, unordered, equal}
 use Rattle.limits.specs.Limits.{rule_trailer, max_clauses, max_whole}
 use Rattle.words.specs.Walk.{first_copy}
@@ -22,10 +21,10 @@ pub record AcceptedWithin (limits : Limits) (b : List ℕ) : Type 0 where
   pub few_variables : variable_count b ≤ limits.variables
   pub few_clauses : clause_count b ≤ max_clauses
   pub prefix_ends : prefix_start b + 2 * variable_count b ≡ word_count b - 4
-  pub walked : walk_clauses b (variable_count b) (prefix_start b) (clause_count b) 0 ≡ none
+  pub walked : walk_clauses b (variable_count b) (prefix_start b) (clause_count b) 0 ≡ None
   pub in_range : some_of (out_of_range (variable_count b)) (clauses b) ≡ false
   pub ordered : some_of (asked limits.ordered unordered) (clauses b) ≡ false
-  pub no_copies : first_copy (λ c. asked limits.ordered (equal c)) (clauses b) ≡ none
+  pub no_copies : first_copy (λ c. asked limits.ordered (equal c)) (clauses b) ≡ None
   pub well_formed : some_of malformed (prefix b) ≡ false
   pub bounded : whole b ≤ max_whole
 

@@ -5,5 +5,6 @@ pub mod ReaderLimits
 pub mod Reader
 pub mod Checks
 pub mod Accepted
+pub mod Opened
 pub mod TwoReaders
 pub mod Masks

@@ -1,8 +1,8 @@
 -- What is claimed of two readers, one within tighter limits than the other. Assumes nothing.
-use Rattle.std.specs.Prelude.{◌≡◌, List, ℕ, ◌≤◌, ◌<◌, length}
+use Rattle.std.specs.Prelude.{◌≡◌, List, ℕ, ◌≤◌, ◌<◌, length, Err}
 use Rattle.limits.specs.Limits.{rule_trailer}
-use Rattle.answer.specs.Answer.{Answer, refused}
-use Rattle.answer.specs.declared.Refusal.TheVariants.{Alone}
+use Rattle.answer.specs.Answer.{Answer}
+use Rattle.answer.specs.declared.Refusal.TheVariants as refusal
 use Rattle.words.specs.Words.{word_count, stated_count, Length}
 use Rattle.rule_file.specs.RuleFile.{variable_count}
 use Rattle.rule_file.specs.declared.Limits.{Limits}
@@ -23,6 +23,6 @@ pub record WithinLimits (k : Limits) (b : List ℕ) : Type 0 where
 -- 3, for one over the variables that passes 1 and 2
 pub data Compared (k : Limits) (b : List ℕ) (within_k other : Answer Header) : Type 0 where
   agree : within_k ≡ other → Compared k b within_k other
-  over_bytes : k.bytes < length b → within_k ≡ refused (Alone 1) → Compared k b within_k other
+  over_bytes : k.bytes < length b → within_k ≡ Err refusal.FileLength → Compared k b within_k other
   over_variables : Length rule_trailer k.bytes b → stated_count b ≡ word_count b → k.variables < variable_count b
-      → within_k ≡ refused (Alone 3) → Compared k b within_k other
+      → within_k ≡ Err refusal.TooMany → Compared k b within_k other

@@ -16,23 +16,20 @@ ghost use Rattle.std.specs.Prelude.{◌<◌};
 ghost use Rattle.std.specs.Io.{ReadsAtMost};
 
 use answer::Refusal;
-use clause_reader::cursor::Step;
 use clause_reader::nth_clause;
-use derivation::Checking;
 use derivation_check::check;
-use derivation_writer::{Deriving, derive};
+use derivation_writer::derive;
 use full_read::read_full;
-use job_list::{Listing, Parsing, line_at, parse, read_list};
+use job_list::{line_at, parse, read_list};
 use limits::{MAX_BYTES, MAX_CLAUSES};
-use points::{Marking, Marks, Pointing};
-use repair::{Repairing, repair};
-use rule_file::{Reading, read, read_small};
+use points::Marks;
+use repair::repair;
+use rule_file::{Header, read, read_small};
 use solver::{cut, figure, marks, point, verdict};
 use std::io;
 use std::io::Read;
-use tally::{Tally, absorbed, begin, kind_of};
+use tally::{Kind, Tally};
 use value::thresholds::Verdict;
-use value::{Cutting, Figuring, Judging};
 use words::{part, word};
 
 // Some bytes more than a file may have, so that the operations see what is too long.
@@ -41,278 +38,239 @@ const ROOM: usize = MAX_BYTES + 8;
 // What each byte holds that is lent to the writer or the repair.
 const BEFORE: u8 = 90;
 
-fn print(rt: &impl Print, text: &str) -> io::Result<()> {
-    rt.print(text)
+// The operations that a record can ask for.
+#[derive(Clone, Copy)]
+enum Operation {
+    Read,
+    Figure,
+    Verdict,
+    Cut,
+    Check,
+    ReadClauses,
+    Derive,
+    ReadList,
+    Tally,
+    ReadSmall,
+    Repair,
+    Marks,
+    Point,
 }
 
-fn print_number(rt: &impl Print, number: u32) -> io::Result<()> {
-    rt.print(number)
-}
+// A number that names no operation.
+#[derive(Clone, Copy)]
+struct NoOperation;
 
-fn print_value(rt: &impl Print, value: u64) -> io::Result<()> {
-    print!(rt; " {value}")
-}
+impl TryFrom<usize> for Operation {
+    type Error = NoOperation;
 
-// The number, and the place that it names.
-fn print_refusal(rt: &impl Print, refusal: Refusal) -> io::Result<()> {
-    match refusal {
-        Refusal::Alone(number) => print_number(rt, number),
-        Refusal::At(number, place) => {
-            print_number(rt, number)?;
-            print_value(rt, place as u64)
+    fn try_from(number: usize) -> Result<Operation, NoOperation> {
+        match number {
+            1 => Ok(Operation::Read),
+            2 => Ok(Operation::Figure),
+            3 => Ok(Operation::Verdict),
+            4 => Ok(Operation::Cut),
+            5 => Ok(Operation::Check),
+            6 => Ok(Operation::ReadClauses),
+            7 => Ok(Operation::Derive),
+            8 => Ok(Operation::ReadList),
+            9 => Ok(Operation::Tally),
+            10 => Ok(Operation::ReadSmall),
+            11 => Ok(Operation::Repair),
+            12 => Ok(Operation::Marks),
+            13 => Ok(Operation::Point),
+            _ => Err(NoOperation),
         }
     }
 }
 
-fn print_reading(rt: &impl Print, reading: Reading) -> io::Result<()> {
-    match reading {
-        Reading::Refused(refusal) => print_refusal(rt, refusal),
-        Reading::Accepted(header) => {
-            print_number(rt, 0)?;
-            print_value(rt, header.variables as u64)?;
-            print_value(rt, header.clauses as u64)?;
-            print_value(rt, header.prefix as u64)?;
-            print_value(rt, header.whole)
-        }
+// A record: what is asked, two numbers that go with it, and two files.
+#[derive(Clone, Copy)]
+struct Question<'a> {
+    operation: usize,
+    a: u64,
+    b: u64,
+    rule: &'a [u8],
+    derivation: &'a [u8],
+}
+
+// The number, and the place that it names.
+fn print_refusal(rt: &impl Print, refusal: Refusal) -> io::Result<()> {
+    let number = refusal.number();
+    match refusal.place() {
+        Some(place) => print!(rt; "{number} {place}"),
+        None => print!(rt; "{number}"),
+    }
+}
+
+fn print_header(rt: &impl Print, answer: Result<Header, Refusal>) -> io::Result<()> {
+    match answer {
+        Ok(h) => print!(rt; "0 {} {} {} {}", h.variables, h.clauses, h.prefix, h.whole),
+        Err(refusal) => print_refusal(rt, refusal),
     }
 }
 
 fn print_figure(rt: &impl Print, rule: &[u8]) -> io::Result<()> {
     match figure(rule) {
-        Figuring::Refused(refusal) => print_refusal(rt, refusal),
-        Figuring::Answered(ratio) => {
-            print_number(rt, 0)?;
-            print_value(rt, ratio.figure)?;
-            print_value(rt, ratio.whole)
-        }
+        Ok(ratio) => print!(rt; "0 {} {}", ratio.figure, ratio.whole),
+        Err(refusal) => print_refusal(rt, refusal),
     }
 }
 
-fn print_verdict(rt: &impl Print, res: Judging) -> io::Result<()> {
-    match res {
-        Judging::Refused(refusal) => print_refusal(rt, refusal),
-        Judging::Answered(verdict) => match verdict {
-            Verdict::Above => print(rt, "0 above"),
-            Verdict::Below => print(rt, "0 below"),
-            Verdict::Within(figure) => {
-                print(rt, "0 within")?;
-                print_value(rt, figure)
-            }
-        },
+fn print_verdict(rt: &impl Print, answer: Result<Verdict, Refusal>) -> io::Result<()> {
+    match answer {
+        Ok(Verdict::Above) => print!(rt; "0 above"),
+        Ok(Verdict::Below) => print!(rt; "0 below"),
+        Ok(Verdict::Within(figure)) => print!(rt; "0 within {figure}"),
+        Err(refusal) => print_refusal(rt, refusal),
     }
 }
 
 fn print_cut(rt: &impl Print, rule: &[u8], level: u64) -> io::Result<()> {
     match cut(rule, level) {
-        Cutting::Refused(refusal) => print_refusal(rt, refusal),
-        Cutting::Answered(bounds) => {
-            print_number(rt, 0)?;
-            print_value(rt, bounds.lower)?;
-            print_value(rt, bounds.upper)?;
-            print_value(rt, bounds.undetermined)
-        }
+        Ok(x) => print!(rt; "0 {} {} {}", x.lower, x.upper, x.undetermined),
+        Err(refusal) => print_refusal(rt, refusal),
     }
 }
 
 // The bits of a double; of what is no number there are none.
 fn print_double(rt: &impl Print, x: f64) -> io::Result<()> {
     if x == x {
-        print_value(rt, f64::to_bits(x))
+        print!(rt; " {}", f64::to_bits(x))
     } else {
-        print(rt, " nan")
+        print!(rt; " nan")
     }
 }
 
 fn print_marks(rt: &impl Print, rule: &[u8], level: u64) -> io::Result<()> {
     match marks(rule, level) {
-        Marking::Refused(refusal) => print_refusal(rt, refusal),
-        Marking::Answered(found) => match found {
-            Marks::One(mark) => {
-                print(rt, "0 one")?;
-                print_double(rt, mark)
-            }
-            Marks::Two(low, high) => {
-                print(rt, "0 two")?;
-                print_double(rt, low)?;
-                print_double(rt, high)
-            }
-        },
+        Ok(Marks::One(mark)) => {
+            print!(rt; "0 one")?;
+            print_double(rt, mark)
+        }
+        Ok(Marks::Two(low, high)) => {
+            print!(rt; "0 two")?;
+            print_double(rt, low)?;
+            print_double(rt, high)
+        }
+        Err(refusal) => print_refusal(rt, refusal),
     }
 }
 
 fn print_point(rt: &impl Print, rule: &[u8], level: u64) -> io::Result<()> {
     match point(rule, level) {
-        Pointing::Refused(refusal) => print_refusal(rt, refusal),
-        Pointing::Answered(found) => {
-            print_number(rt, 0)?;
+        Ok(found) => {
+            print!(rt; "0")?;
             print_double(rt, found.low)?;
             print_double(rt, found.high)?;
             print_double(rt, found.open_share)
         }
+        Err(refusal) => print_refusal(rt, refusal),
     }
 }
 
-fn print_checking<'a>(rt: &impl Print, rule: &'a [u8], derivation: &'a [u8]) -> io::Result<()> {
+fn print_check(rt: &impl Print, rule: &[u8], derivation: &[u8]) -> io::Result<()> {
     match check(rule, derivation) {
-        Checking::Refused(refusal) => print_refusal(rt, refusal),
-        Checking::Accepted(closing) => {
-            print_number(rt, 0)?;
-            print_value(rt, closing.value)?;
-            print_value(rt, closing.whole)
-        }
+        Ok(closing) => print!(rt; "0 {} {}", closing.value, closing.whole),
+        Err(refusal) => print_refusal(rt, refusal),
     }
 }
 
 fn print_literals(rt: &impl Print, clause: &[u8]) -> io::Result<()> {
     let length = clause.len() / 4;
-    print_value(rt, length as u64)?;
+    print!(rt; " {length}")?;
     for i in 0..length {
-        print_value(rt, word(clause, i) as u64)?;
+        print!(rt; " {}", word(clause, i))?;
     }
     Ok(())
 }
 
-// What the clause reader gives of clause j; whether it was a clause.
-fn print_clause(rt: &impl Print, rule: &[u8], j: usize) -> io::Result<bool> {
-    match nth_clause(rule, j) {
-        Step::Refused(_) => Ok(false),
-        Step::Clause {
-            number: _,
-            start,
-            length,
-            next: _,
-        } => {
-            print_literals(rt, part(rule, start, length))?;
-            Ok(true)
-        }
-        Step::Done => {
-            print(rt, " none")?;
-            Ok(false)
-        }
-    }
-}
-
 // Clause after clause, and that none is left. The bound only makes the loop end: no accepted file has more clauses.
 fn print_clauses(rt: &impl Print, rule: &[u8]) -> io::Result<()> {
-    match nth_clause(rule, 0) {
-        Step::Refused(refusal) => print_refusal(rt, refusal),
-        _ => {
-            print_number(rt, 0)?;
-            for j in 0..=MAX_CLAUSES {
-                if !print_clause(rt, rule, j)? {
-                    break;
-                }
-            }
-            Ok(())
-        }
+    if let Err(refusal) = read(rule) {
+        return print_refusal(rt, refusal);
     }
+    print!(rt; "0")?;
+    for j in 0..=MAX_CLAUSES {
+        let Ok(Some(clause)) = nth_clause(rule, j) else {
+            return print!(rt; " none");
+        };
+        print_literals(rt, part(rule, clause.start, clause.length))?;
+    }
+    Ok(())
 }
 
 // Whether `room` holds these bytes at its start, and after them what it held before.
-fn holds<'a>(room: &'a [u8], written: &'a [u8]) -> bool {
-    if room.len() < written.len() {
+fn holds(room: &[u8], written: &[u8]) -> bool {
+    if !room.starts_with(written) {
         return false;
     }
-    for i in 0..room.len() {
-        let byte = if i < written.len() {
-            written[i]
-        } else {
-            BEFORE
-        };
-        if room[i] != byte {
-            return false;
-        }
-    }
-    true
+    room[written.len()..].iter().all(|&byte| byte == BEFORE)
 }
 
 // So many bytes at the start of `room`, as far as there are.
 fn lent(room: &mut [u8], capacity: usize) -> &mut [u8] {
-    if room.len() < capacity {
-        return room;
-    }
-    &mut room[..capacity]
+    let end = room.len().min(capacity);
+    &mut room[..end]
 }
 
 // Whether the buffer holds what the record says. The bytes after those that were lent are looked at too.
-fn print_holds<'a>(rt: &impl Print, room: &'a [u8; ROOM], written: &'a [u8]) -> io::Result<()> {
+fn print_holds(rt: &impl Print, room: &[u8], written: &[u8]) -> io::Result<()> {
     if holds(room, written) {
-        print(rt, " right")
+        print!(rt; " right")
     } else {
-        print(rt, " wrong")
+        print!(rt; " wrong")
     }
 }
 
-fn print_deriving<'a>(
-    rt: &impl Print,
-    rule: &'a [u8],
-    capacity: usize,
-    written: &'a [u8],
-) -> io::Result<()> {
+fn print_derivation(rt: &impl Print, asked: Question<'_>) -> io::Result<()> {
     let mut room = [BEFORE; ROOM];
-    match derive(rule, lent(&mut room, capacity)) {
-        Deriving::Refused(refusal) => print_refusal(rt, refusal)?,
-        Deriving::Answered(length) => {
-            print_number(rt, 0)?;
-            print_value(rt, length as u64)?;
-        }
+    match derive(asked.rule, lent(&mut room, asked.a as usize)) {
+        Ok(length) => print!(rt; "0 {length}")?,
+        Err(refusal) => print_refusal(rt, refusal)?,
     }
-    print_holds(rt, &room, written)
+    print_holds(rt, &room, asked.derivation)
 }
 
-fn print_repairing<'a>(
-    rt: &impl Print,
-    rule: &'a [u8],
-    capacity: usize,
-    written: &'a [u8],
-) -> io::Result<()> {
+fn print_repair(rt: &impl Print, asked: Question<'_>) -> io::Result<()> {
     let mut room = [BEFORE; ROOM];
-    match repair(rule, lent(&mut room, capacity)) {
-        Repairing::Refused(refusal) => print_refusal(rt, refusal)?,
-        Repairing::Repaired(counts) => {
-            print_number(rt, 0)?;
-            print_value(rt, counts.bytes as u64)?;
-            print_value(rt, counts.clauses as u64)?;
-            print_value(rt, counts.literals as u64)?;
-            print_value(rt, counts.reordered as u64)?;
-        }
+    match repair(asked.rule, lent(&mut room, asked.a as usize)) {
+        Ok(x) => print!(rt;
+            "0 {} {} {} {}",
+            x.bytes, x.clauses, x.literals, x.reordered
+        )?,
+        Err(refusal) => print_refusal(rt, refusal)?,
     }
-    print_holds(rt, &room, written)
+    print_holds(rt, &room, asked.derivation)
 }
 
 // What a line of the list gives; the index behind it, which no list is long enough to wrap.
 fn print_job(rt: &impl Print, list: &[u8], at: usize) -> io::Result<usize> {
     let line = line_at(list, at);
     match parse(line) {
-        Parsing::Other => print(rt, " other")?,
-        Parsing::Job { name, lower, upper } => {
-            print_value(rt, name as u64)?;
-            print_value(rt, lower)?;
-            print_value(rt, upper)?;
-        }
+        Some(job) => print!(rt; " {} {} {}", job.name.len(), job.lower, job.upper)?,
+        None => print!(rt; " other")?,
     }
     Ok(at.wrapping_add(line.len()).wrapping_add(1))
 }
 
 fn print_list(rt: &impl Print, list: &[u8]) -> io::Result<()> {
     match read_list(list) {
-        Listing::Refused(refusal) => print_refusal(rt, refusal),
-        Listing::Lines(count) => {
-            print_number(rt, 0)?;
-            print_value(rt, count as u64)?;
+        Ok(count) => {
+            print!(rt; "0 {count}")?;
             let mut at = 0;
             for _ in 0..count {
                 at = print_job(rt, list, at)?;
             }
             Ok(())
         }
+        Err(refusal) => print_refusal(rt, refusal),
     }
 }
 
 // The counts in the first five words.
 fn tally_in(words: &[u8]) -> Tally {
     if words.len() < 20 {
-        return begin();
+        return Tally::new();
     }
     Tally {
         files: word(words, 0) as u64,
@@ -323,48 +281,35 @@ fn tally_in(words: &[u8]) -> Tally {
     }
 }
 
-fn print_tally<'a>(
-    rt: &impl Print,
-    rule: &'a [u8],
-    lo: u64,
-    hi: u64,
-    counts: &'a [u8],
-) -> io::Result<()> {
-    let result = verdict(rule, lo, hi);
-    print_verdict(rt, result)?;
-    let tally = absorbed(tally_in(counts), kind_of(result));
-    print_value(rt, tally.files)?;
-    print_value(rt, tally.refused)?;
-    print_value(rt, tally.above)?;
-    print_value(rt, tally.below)?;
-    print_value(rt, tally.within)
+fn print_tally(rt: &impl Print, asked: Question<'_>) -> io::Result<()> {
+    let answer = verdict(asked.rule, asked.a, asked.b);
+    print_verdict(rt, answer)?;
+    let t = tally_in(asked.derivation).absorbed(Kind::from(answer));
+    print!(rt;
+        " {} {} {} {} {}",
+        t.files, t.refused, t.above, t.below, t.within
+    )
 }
 
-fn print_answer<'a>(
-    rt: &impl Print,
-    operation: usize,
-    a: u64,
-    b: u64,
-    rule: &'a [u8],
-    derivation: &'a [u8],
-) -> io::Result<()> {
-    match operation {
-        1 => print_reading(rt, read(rule))?,
-        2 => print_figure(rt, rule)?,
-        3 => print_verdict(rt, verdict(rule, a, b))?,
-        4 => print_cut(rt, rule, a)?,
-        5 => print_checking(rt, rule, derivation)?,
-        6 => print_clauses(rt, rule)?,
-        7 => print_deriving(rt, rule, a as usize, derivation)?,
-        8 => print_list(rt, rule)?,
-        9 => print_tally(rt, rule, a, b, derivation)?,
-        10 => print_reading(rt, read_small(rule))?,
-        11 => print_repairing(rt, rule, a as usize, derivation)?,
-        12 => print_marks(rt, rule, a)?,
-        13 => print_point(rt, rule, a)?,
-        _ => print(rt, "no operation")?,
+fn print_answer(rt: &impl Print, asked: Question<'_>) -> io::Result<()> {
+    let rule = asked.rule;
+    match Operation::try_from(asked.operation) {
+        Ok(Operation::Read) => print_header(rt, read(rule))?,
+        Ok(Operation::Figure) => print_figure(rt, rule)?,
+        Ok(Operation::Verdict) => print_verdict(rt, verdict(rule, asked.a, asked.b))?,
+        Ok(Operation::Cut) => print_cut(rt, rule, asked.a)?,
+        Ok(Operation::Check) => print_check(rt, rule, asked.derivation)?,
+        Ok(Operation::ReadClauses) => print_clauses(rt, rule)?,
+        Ok(Operation::Derive) => print_derivation(rt, asked)?,
+        Ok(Operation::ReadList) => print_list(rt, rule)?,
+        Ok(Operation::Tally) => print_tally(rt, asked)?,
+        Ok(Operation::ReadSmall) => print_header(rt, read_small(rule))?,
+        Ok(Operation::Repair) => print_repair(rt, asked)?,
+        Ok(Operation::Marks) => print_marks(rt, rule, asked.a)?,
+        Ok(Operation::Point) => print_point(rt, rule, asked.a)?,
+        Err(NoOperation) => print!(rt; "no operation")?,
     }
-    print(rt, "\n")
+    print!(rt; "\n")
 }
 
 // The number in words i and i + 1 of a record.
@@ -394,14 +339,14 @@ fn answer_next(rt: &impl Print, input: &mut impl Read) -> io::Result<bool> {
     let mut derivation = [0; ROOM];
     let r = read_file(input, word(&head, 5), &mut rule)?;
     let d = read_file(input, word(&head, 6), &mut derivation)?;
-    print_answer(
-        rt,
-        word(&head, 0),
-        long(&head, 1),
-        long(&head, 3),
-        &rule[..r],
-        &derivation[..d],
-    )?;
+    let asked = Question {
+        operation: word(&head, 0),
+        a: long(&head, 1),
+        b: long(&head, 3),
+        rule: &rule[..r],
+        derivation: &derivation[..d],
+    };
+    print_answer(rt, asked)?;
     Ok(true)
 }
 

@@ -5,7 +5,7 @@ use Rattle.formula.specs.Literals.{literal_status_by, clause_status_by, formula_
 use Rattle.formula.specs.Formula.{are_opposite, some_of, those, first_of_each, out_of_range, repeats, unordered, ill_formed, without, insert_once, rising, equal, all_of}
 use Rattle.formula.specs.LevelRules.{denominator_by}
 use Rattle.formula.specs.Tree.{value, evaluate}
-use Rattle.resolution.specs.Resolution.{level, is_resolvent, lookup, require, judge_resolvent, judge, first_refusal, judge_from, empty_value}
+use Rattle.resolution.specs.Resolution.{level, is_resolvent, lookup, require, judge_resolvent, judge, first_fault, judge_from, empty_value}
 use Rattle.words.specs.Bytes.{word_bytes, bytes_of}
 use Rattle.words.specs.Walk.{elements, first, first_copy_after, walk}
 use Rattle.words.specs.Words.{word, wrong_length}
@@ -31,7 +31,7 @@ unfolding literal_status_by clause_status_by formula_status_by some_of all_of th
     bytes_of word_bytes elements first first_copy_after walk word wrong_length quantifier
     wrong_count too_many wrong_prefix clause_fits malformed too_large read_from_8 read_from_26 read_from_6 read_from_5 read_from_3 read_within read_file read_small read_stored
     figure_file read_with_limits verdict verdict_file read_with_level cut_file
-    level is_resolvent lookup require judge_resolvent judge first_refusal judge_from empty_value
+    level is_resolvent lookup require judge_resolvent judge first_fault judge_from empty_value
     value_at line_of after_line wrong_counts line_fits check_from_21 check_from_17 check_from_15 check_from_13 check_file
     path_opposites_from walk_tree line_words lines_words derivation_words derivation_for too_long derive_file
     tautological literal_count formula_words rule_words repaired_file repair_file repair_answer

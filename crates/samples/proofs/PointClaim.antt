@@ -15,10 +15,11 @@ use Rattle.clause_words.specs.Clauses.{clause_fits}
 use Rattle.rule_file.specs.Reader.{wrong_count, too_many, wrong_prefix, too_large, read_from_8, read_from_26, read_from_6, read_from_5, read_from_3, read_within, read_file}
 use Rattle.value.specs.Cut.{read_with_level, cut_file}
 use Rattle.points.specs.Points.{share, marks_of, point_for, read_to_plot, marks_file, point_file}
+use Rattle.samples.specs.Samples.{numbered}
 use Rattle.samples.specs.PointSamples.{MarksSample, PointSample, marks_samples, point_samples}
 
 pub marks_samples_hold :
-    map (λ (s : MarksSample). marks_file (bytes_of s.file) s.level) marks_samples ≡ map (λ (s : MarksSample). s.expected) marks_samples
+    map (λ (s : MarksSample). numbered (marks_file (bytes_of s.file) s.level)) marks_samples ≡ map (λ (s : MarksSample). s.expected) marks_samples
 unfolding literal_status_by clause_status_by formula_status_by some_of all_of out_of_range repeats unordered ill_formed equal
     unset_literals_by is_unit_by are_opposite clash_by node_status_by
     denominator_by value evaluate
@@ -30,7 +31,7 @@ unfolding literal_status_by clause_status_by formula_status_by some_of all_of ou
 marks_samples_hold = refl
 
 pub point_samples_hold :
-    map (λ (s : PointSample). point_file (bytes_of s.file) s.level) point_samples ≡ map (λ (s : PointSample). s.expected) point_samples
+    map (λ (s : PointSample). numbered (point_file (bytes_of s.file) s.level)) point_samples ≡ map (λ (s : PointSample). s.expected) point_samples
 unfolding literal_status_by clause_status_by formula_status_by some_of all_of out_of_range repeats unordered ill_formed equal
     unset_literals_by is_unit_by are_opposite clash_by node_status_by
     denominator_by value evaluate

@@ -1,43 +1,41 @@
 -- The samples of marks and points that document 02 (x) asks for: each the words of a file, a level, and the answer that
 -- must be given, doubles by their bits. Assumes nothing.
-use Rattle.std.specs.Prelude.{List, [], ◌∷◌, ℕ, Float}
+use Rattle.std.specs.Prelude.{List, [], ◌∷◌, ℕ, Float, None}
 use Rattle.std.specs.Float.{binary64}
 use Rattle.std.specs.Float.Ieee.{of_bits}
-use Rattle.answer.specs.Answer.{Answer, refused, answer}
-use Rattle.answer.specs.declared.Refusal.TheVariants.{Alone}
 use Rattle.points.specs.declared.Marks.{Marks}
 use Rattle.points.specs.declared.Marks.TheVariants.{One, Two}
 use Rattle.points.specs.declared.Point.{Point}
-use Rattle.samples.specs.Samples.{example}
+use Rattle.samples.specs.Samples.{Numbered, refused, answered, example}
 
 pub record MarksSample : Type 0 where
   pub file : List ℕ
   pub level : ℕ
-  pub expected : Answer Marks
+  pub expected : Numbered Marks
 
 pub record PointSample : Type 0 where
   pub file : List ℕ
   pub level : ℕ
-  pub expected : Answer Point
+  pub expected : Numbered Point
 
-abbrev marks : List ℕ → ℕ → Answer Marks → MarksSample
+abbrev marks : List ℕ → ℕ → Numbered Marks → MarksSample
 marks ws n x = record { file = ws; level = n; expected = x }
 
-abbrev point : List ℕ → ℕ → Answer Point → PointSample
+abbrev point : List ℕ → ℕ → Numbered Point → PointSample
 point ws n x = record { file = ws; level = n; expected = x }
 
 -- one mark, two marks, and a point
 abbrev double : ℕ → Float
 double bits = of_bits binary64 bits
 
-abbrev one_mark : ℕ → Answer Marks
-one_mark x = answer (One (double x))
+abbrev one_mark : ℕ → Numbered Marks
+one_mark x = answered (One (double x))
 
-abbrev two_marks : ℕ → ℕ → Answer Marks
-two_marks x y = answer (Two (double x) (double y))
+abbrev two_marks : ℕ → ℕ → Numbered Marks
+two_marks x y = answered (Two (double x) (double y))
 
-abbrev point_at : ℕ → ℕ → ℕ → Answer Point
-point_at x y z = answer (record { low = double x; high = double y; open_share = double z })
+abbrev point_at : ℕ → ℕ → ℕ → Numbered Point
+point_at x y z = answered (record { low = double x; high = double y; open_share = double z })
 
 -- clause {0} over a draw of two odds
 abbrev drawn : ℕ → ℕ → List ℕ
@@ -62,7 +60,7 @@ marks_samples =
     marks chosen_or_drawn 1 (one_mark 0x3ff0_0000_0000_0000) ∷
     -- 1 out of 2^53; 27 for the next larger whole
     marks (1 ∷ 0 ∷ 1 ∷ 2 ∷ 1 ∷ 4 ∷ 1 ∷ 6 ∷ 1 ∷ 65535 ∷ 1 ∷ 65535 ∷ 1 ∷ 65535 ∷ 1 ∷ 31 ∷ 4 ∷ 4 ∷ 8 ∷ 20 ∷ []) 4 (one_mark 0x3ca0_0000_0000_0000) ∷
-    marks over_plotted 5 (refused (Alone 27)) ∷
+    marks over_plotted 5 (refused 27 None) ∷
     []
 
 unfoldable pub point_samples : List PointSample
@@ -72,6 +70,6 @@ point_samples =
     point example 2 (point_at 0 0x3fe9_9999_9999_999a 0x3fe9_9999_9999_999a) ∷
     point chosen_or_drawn 1 (point_at 0x3ff0_0000_0000_0000 0x3ff0_0000_0000_0000 0x3ff0_0000_0000_0000) ∷
     -- 27 for a whole over 2^53, and 12 before it
-    point over_plotted 0 (refused (Alone 27)) ∷
-    point over_plotted 6 (refused (Alone 12)) ∷
+    point over_plotted 0 (refused 27 None) ∷
+    point over_plotted 6 (refused 12 None) ∷
     []

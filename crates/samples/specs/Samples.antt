@@ -1,10 +1,9 @@
 -- Document 01's samples P1 to P12, the places that document 02 (i) adds to refusals, the derivations that (ii) writes,
 -- the order that (iv) asks for, the nodes that (v) calls lost, the limits of (vii), the repairs of (viii) and the
 -- copies of (ix), in one list: each a question to an operation, and the answer that it must give. Assumes nothing.
-use Rattle.std.specs.Prelude.{List, [], ◌∷◌, ◌++◌, ℕ, ◌+◌, ◌*◌, length, replicate}
+use Rattle.std.specs.Prelude.{List, [], ◌∷◌, ◌++◌, ℕ, ◌+◌, ◌*◌, length, replicate, Option, None, Some, Err, Ok}
 use Rattle.bounds.specs.declared.Bounds.{Bounds}
-use Rattle.answer.specs.Answer.{Answer, refused, answer}
-use Rattle.answer.specs.declared.Refusal.TheVariants.{Alone, At}
+use Rattle.answer.specs.Answer.{Answer, number_of, place_of}
 use Rattle.words.specs.Bytes.{bytes_of}
 use Rattle.rule_file.specs.Reader.{read_file, read_small}
 use Rattle.rule_file.specs.declared.Header.{Header}
@@ -30,26 +29,35 @@ pub data Question : Type 0 where
   repair : List ℕ → ℕ → Question
   repaired : List ℕ → ℕ → Question
 
+-- an answer, its refusal by the documents' number and the place that it names
+pub data Numbered (A : Type 0) : Type 0 where
+  refused : ℕ → Option ℕ → Numbered A
+  answered : A → Numbered A
+
+abbrev pub numbered : {A : Type 0} → Answer A → Numbered A
+numbered (Err r) = refused (number_of r) (place_of r)
+numbered (Ok x) = answered x
+
 pub data Expected : Type 0 where
-  stated : Answer Header → Expected
-  figured : Answer Ratio → Expected
-  judged : Answer Verdict → Expected
-  bounded : Answer Bounds → Expected
-  checked : Answer Closing → Expected
-  written : Answer (List ℕ) → Expected
-  counted : Answer Repairs → Expected
+  stated : Numbered Header → Expected
+  figured : Numbered Ratio → Expected
+  judged : Numbered Verdict → Expected
+  bounded : Numbered Bounds → Expected
+  checked : Numbered Closing → Expected
+  written : Numbered (List ℕ) → Expected
+  counted : Numbered Repairs → Expected
 
 -- what the operation answers, by the definition that its contract cites
 unfoldable pub ask : Question → Expected
-ask (read ws) = stated (read_file (bytes_of ws))
-ask (read_by_small ws) = stated (read_small (bytes_of ws))
-ask (figure ws) = figured (figure_file (bytes_of ws))
-ask (verdict ws lo hi) = judged (verdict_file (bytes_of ws) lo hi)
-ask (cut ws level) = bounded (cut_file (bytes_of ws) level)
-ask (check ws ds) = checked (check_file (bytes_of ws) (bytes_of ds))
-ask (derive ws capacity) = written (derive_file (bytes_of ws) capacity)
-ask (repair ws capacity) = counted (repair_answer (bytes_of ws) capacity)
-ask (repaired ws capacity) = written (repair_file (bytes_of ws) capacity)
+ask (read ws) = stated (numbered (read_file (bytes_of ws)))
+ask (read_by_small ws) = stated (numbered (read_small (bytes_of ws)))
+ask (figure ws) = figured (numbered (figure_file (bytes_of ws)))
+ask (verdict ws lo hi) = judged (numbered (verdict_file (bytes_of ws) lo hi))
+ask (cut ws level) = bounded (numbered (cut_file (bytes_of ws) level))
+ask (check ws ds) = checked (numbered (check_file (bytes_of ws) (bytes_of ds)))
+ask (derive ws capacity) = written (numbered (derive_file (bytes_of ws) capacity))
+ask (repair ws capacity) = counted (numbered (repair_answer (bytes_of ws) capacity))
+ask (repaired ws capacity) = written (numbered (repair_file (bytes_of ws) capacity))
 
 -- n existential variables, and no clause
 abbrev existentials : ℕ → List ℕ
@@ -57,7 +65,7 @@ existentials n = replicate (2 * n) 0 ++ (0 ∷ n ∷ 0 ∷ (2 * n + 4) ∷ [])
 
 -- what a reader answers of them
 abbrev read_as : ℕ → Expected
-read_as n = stated (answer (record { variables = n; clauses = 0; prefix = 0; whole = 1 }))
+read_as n = stated (answered (record { variables = n; clauses = 0; prefix = 0; whole = 1 }))
 
 -- a file with so many words of 0
 abbrev zeros : ℕ → List ℕ
@@ -65,15 +73,15 @@ zeros k = replicate k 0
 
 -- a figure out of a whole
 abbrev out_of : ℕ → ℕ → Expected
-out_of x w = figured (answer (record { figure = x; whole = w }))
+out_of x w = figured (answered (record { figure = x; whole = w }))
 
 -- lower number, upper number and open weight
 abbrev between : ℕ → ℕ → ℕ → Expected
-between l u o = bounded (answer (record { lower = l; upper = u; undetermined = o }))
+between l u o = bounded (answered (record { lower = l; upper = u; undetermined = o }))
 
 -- a refusal of number k that names the clause or variable i
 abbrev refused_at : ℕ → ℕ → Expected
-refused_at k i = figured (refused (At k i))
+refused_at k i = figured (refused k (Some i))
 
 -- the words of m clauses, over a draw 3:1, a choice and a draw 7:3
 abbrev over_three : ℕ → List ℕ → List ℕ
@@ -81,11 +89,11 @@ over_three m ws = ws ++ (3 ∷ 1 ∷ 0 ∷ 0 ∷ 7 ∷ 3 ∷ m ∷ 3 ∷ length 
 
 -- a file of these words
 abbrev written_as : List ℕ → Expected
-written_as ws = written (answer (bytes_of ws))
+written_as ws = written (answered (bytes_of ws))
 
 -- the repaired file's length in bytes, clauses dropped, literals dropped and clauses reordered
 abbrev counts : ℕ → ℕ → ℕ → ℕ → Expected
-counts n c l r = counted (answer (record { bytes = n; clauses = c; literals = l; reordered = r }))
+counts n c l r = counted (answered (record { bytes = n; clauses = c; literals = l; reordered = r }))
 
 pub record Sample : Type 0 where
   pub question : Question
@@ -136,13 +144,13 @@ samples =
     -- P7: the example
     sample (figure example) (out_of 12 50) ∷
     -- P8 to P10: its verdicts
-    sample (verdict example 12 12) (judged (answer (Within 12))) ∷
-    sample (verdict example 13 50) (judged (answer Below)) ∷
-    sample (verdict example 0 11) (judged (answer Above)) ∷
+    sample (verdict example 12 12) (judged (answered (Within 12))) ∷
+    sample (verdict example 13 50) (judged (answered Below)) ∷
+    sample (verdict example 0 11) (judged (answered Above)) ∷
     -- P11: its cut at level 2
     sample (cut example 2) (between 0 40 40) ∷
     -- P12: its derivation
-    sample (check example derivation) (checked (answer (record { value = 12; whole = 50 }))) ∷
+    sample (check example derivation) (checked (answered (record { value = 12; whole = 50 }))) ∷
     -- 5: clause 1 has two literals over one variable; clause 2 stands past the prefix start; the walk ends before it
     sample (figure (1 ∷ 0 ∷ 2 ∷ 0 ∷ 1 ∷ 0 ∷ 0 ∷ 2 ∷ 1 ∷ 5 ∷ 11 ∷ [])) (refused_at 5 1) ∷
     sample (figure (1 ∷ 0 ∷ 1 ∷ 1 ∷ 0 ∷ 0 ∷ 3 ∷ 1 ∷ 4 ∷ 10 ∷ [])) (refused_at 5 2) ∷
@@ -154,19 +162,19 @@ samples =
     -- 8: weights 0:0, 0:1 and 1:0
     sample (figure (0 ∷ 0 ∷ 0 ∷ 1 ∷ 1 ∷ 0 ∷ 0 ∷ 3 ∷ 0 ∷ 10 ∷ [])) (refused_at 8 1) ∷
     -- the example's derivation, written into its 168 bytes; 22 for a buffer of one less
-    sample (derive example 168) (written (answer (bytes_of derivation))) ∷
-    sample (derive example 167) (written (refused (Alone 22))) ∷
+    sample (derive example 168) (written (answered (bytes_of derivation))) ∷
+    sample (derive example 167) (written (refused 22 None)) ∷
     -- of no clauses: one line, empty; of one empty clause: no line, and the clause named
-    sample (derive (0 ∷ 0 ∷ 0 ∷ 4 ∷ []) 28) (written (answer (bytes_of (1 ∷ 0 ∷ 1 ∷ 0 ∷ 1 ∷ 1 ∷ 7 ∷ [])))) ∷
-    sample (derive (0 ∷ 1 ∷ 0 ∷ 1 ∷ 5 ∷ []) 12) (written (answer (bytes_of (0 ∷ 0 ∷ 3 ∷ [])))) ∷
+    sample (derive (0 ∷ 0 ∷ 0 ∷ 4 ∷ []) 28) (written (answered (bytes_of (1 ∷ 0 ∷ 1 ∷ 0 ∷ 1 ∷ 1 ∷ 7 ∷ [])))) ∷
+    sample (derive (0 ∷ 1 ∷ 0 ∷ 1 ∷ 5 ∷ []) 12) (written (answered (bytes_of (0 ∷ 0 ∷ 3 ∷ [])))) ∷
     -- 23; 7 before it, with {2, 0} and {0, 1}; and it before 8, with {2, 0} over weights 0:1
     sample (figure not_rising) (refused_at 23 1) ∷
     sample (figure (2 ∷ 2 ∷ 0 ∷ 2 ∷ 0 ∷ 1 ∷ 0 ∷ 0 ∷ 0 ∷ 0 ∷ 2 ∷ 2 ∷ 6 ∷ 14 ∷ [])) (refused_at 7 1) ∷
     sample (figure (2 ∷ 2 ∷ 0 ∷ 0 ∷ 1 ∷ 0 ∷ 0 ∷ 1 ∷ 2 ∷ 3 ∷ 11 ∷ [])) (refused_at 23 0) ∷
     -- 16: the variables of a line do not rise, in line 1 and in both; 19: another sign of a literal in line 1
-    sample (check example (derivation_with 1 2 2 1)) (checked (refused (At 16 1))) ∷
-    sample (check example (derivation_with 2 1 2 1)) (checked (refused (At 16 0))) ∷
-    sample (check example (derivation_with 1 2 1 3)) (checked (refused (At 19 1))) ∷
+    sample (check example (derivation_with 1 2 2 1)) (checked (refused 16 (Some 1))) ∷
+    sample (check example (derivation_with 2 1 2 1)) (checked (refused 16 (Some 0))) ∷
+    sample (check example (derivation_with 1 2 1 3)) (checked (refused 19 (Some 1))) ∷
     -- a clash: the example where variable 0 is false; {0} and {1} over a draw
     sample (cut example 1) (between 0 40 40) ∷
     sample (cut (1 ∷ 0 ∷ 1 ∷ 1 ∷ 3 ∷ 1 ∷ 2 ∷ 1 ∷ 4 ∷ 10 ∷ []) 0) (between 0 0 0) ∷
@@ -177,19 +185,19 @@ samples =
     sample (cut (2 ∷ 0 ∷ 2 ∷ 2 ∷ 1 ∷ 3 ∷ 1 ∷ 1 ∷ 0 ∷ 0 ∷ 2 ∷ 2 ∷ 6 ∷ 14 ∷ []) 1) (between 0 2 2) ∷
     -- the small reader: 16 and 17 variables, and 33, which the full one refuses too
     sample (read_by_small (existentials 16)) (read_as 16) ∷
-    sample (read_by_small (existentials 17)) (stated (refused (Alone 3))) ∷
+    sample (read_by_small (existentials 17)) (stated (refused 3 None)) ∷
     sample (read (existentials 17)) (read_as 17) ∷
     sample (read (existentials 32)) (read_as 32) ∷
-    sample (read (existentials 33)) (stated (refused (Alone 3))) ∷
+    sample (read (existentials 33)) (stated (refused 3 None)) ∷
     -- 4,096 bytes and 4,100, without a word count: 2 where the length is right
-    sample (read_by_small (zeros 1024)) (stated (refused (Alone 2))) ∷
-    sample (read_by_small (zeros 1025)) (stated (refused (Alone 1))) ∷
-    sample (read (zeros 1025)) (stated (refused (Alone 2))) ∷
+    sample (read_by_small (zeros 1024)) (stated (refused 2 None)) ∷
+    sample (read_by_small (zeros 1025)) (stated (refused 1 None)) ∷
+    sample (read (zeros 1025)) (stated (refused 2 None)) ∷
     -- a repair of {4, 0, 4}: a literal dropped and the others put in order; 25 for a buffer shorter than the file by a
     -- byte, although what is written would fit
     sample (repair (over_three 1 (3 ∷ 4 ∷ 0 ∷ 4 ∷ [])) 56) (counts 52 0 1 1) ∷
     sample (repaired (over_three 1 (3 ∷ 4 ∷ 0 ∷ 4 ∷ [])) 56) (written_as (over_three 1 (2 ∷ 0 ∷ 4 ∷ []))) ∷
-    sample (repaired (over_three 1 (3 ∷ 4 ∷ 0 ∷ 4 ∷ [])) 55) (written (refused (Alone 25))) ∷
+    sample (repaired (over_three 1 (3 ∷ 4 ∷ 0 ∷ 4 ∷ [])) 55) (written (refused 25 None)) ∷
     -- {0, 4, 0} and {2, 2} rise without the later repeats
     sample (repair (over_three 2 (3 ∷ 0 ∷ 4 ∷ 0 ∷ 2 ∷ 2 ∷ 2 ∷ [])) 68) (counts 60 0 2 0) ∷
     sample (repaired (over_three 2 (3 ∷ 0 ∷ 4 ∷ 0 ∷ 2 ∷ 2 ∷ 2 ∷ [])) 68) (written_as (over_three 2 (2 ∷ 0 ∷ 4 ∷ 1 ∷ 2 ∷ []))) ∷
@@ -204,11 +212,11 @@ samples =
     sample (repair example 72) (counts 72 0 0 0) ∷
     sample (repaired example 72) (written_as example) ∷
     -- still 5 for {0, 0} over one variable; 6 before 25
-    sample (repair (2 ∷ 0 ∷ 0 ∷ 0 ∷ 0 ∷ 1 ∷ 1 ∷ 3 ∷ 9 ∷ []) 36) (counted (refused (At 5 0))) ∷
-    sample (repair (over_three 1 (1 ∷ 6 ∷ [])) 0) (counted (refused (At 6 0))) ∷
+    sample (repair (2 ∷ 0 ∷ 0 ∷ 0 ∷ 0 ∷ 1 ∷ 1 ∷ 3 ∷ 9 ∷ []) 36) (counted (refused 5 (Some 0))) ∷
+    sample (repair (over_three 1 (1 ∷ 6 ∷ [])) 0) (counted (refused 6 (Some 0))) ∷
     -- 26: {0}, {2}, {2}, {0}, by both readers; two empty clauses; not {0} and {0, 2}
     sample (figure (1 ∷ 0 ∷ 1 ∷ 2 ∷ 1 ∷ 2 ∷ 1 ∷ 0 ∷ 0 ∷ 0 ∷ 0 ∷ 0 ∷ 4 ∷ 2 ∷ 8 ∷ 16 ∷ [])) (refused_at 26 2) ∷
-    sample (read_by_small (1 ∷ 0 ∷ 1 ∷ 2 ∷ 1 ∷ 2 ∷ 1 ∷ 0 ∷ 0 ∷ 0 ∷ 0 ∷ 0 ∷ 4 ∷ 2 ∷ 8 ∷ 16 ∷ [])) (stated (refused (At 26 2))) ∷
+    sample (read_by_small (1 ∷ 0 ∷ 1 ∷ 2 ∷ 1 ∷ 2 ∷ 1 ∷ 0 ∷ 0 ∷ 0 ∷ 0 ∷ 0 ∷ 4 ∷ 2 ∷ 8 ∷ 16 ∷ [])) (stated (refused 26 (Some 2))) ∷
     sample (figure (0 ∷ 0 ∷ 2 ∷ 0 ∷ 2 ∷ 6 ∷ [])) (refused_at 26 1) ∷
     sample (figure (1 ∷ 0 ∷ 2 ∷ 0 ∷ 2 ∷ 0 ∷ 0 ∷ 0 ∷ 0 ∷ 2 ∷ 2 ∷ 5 ∷ 13 ∷ [])) (out_of 1 1) ∷
     -- 23 before it, with {0}, {0} and {2, 0}; and it before 8, with {0} and {0} over weights 0:1

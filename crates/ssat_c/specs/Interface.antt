@@ -1,8 +1,8 @@
 -- The four numbers that are stored for an answer of the readers, of the check, of the writer, of the repair and of the
 -- point, and the point's doubles; c_convention/specs/Convention has those of figure, verdict and cut. Assumes nothing.
-use Rattle.std.specs.Prelude.{List, [], ◌∷◌, ℕ, Float}
+use Rattle.std.specs.Prelude.{List, [], ◌∷◌, ℕ, Float, Err, Ok}
 use Rattle.std.proofs.lemmas.List.Edits.{sets}
-use Rattle.answer.specs.Answer.{Answer, refused, answer}
+use Rattle.answer.specs.Answer.{Answer}
 use Rattle.rule_file.specs.declared.Header.{Header}
 use Rattle.points.specs.declared.Marks.{Marks}
 use Rattle.points.specs.declared.Marks.TheVariants.{One, Two}
@@ -29,5 +29,5 @@ mark_values (Two low high) = 2 ∷ 0 ∷ 0 ∷ 0 ∷ []
 
 -- the doubles afterwards: an answer's three; a refusal leaves them
 abbrev pub point_after : Answer Point → List Float → List Float
-point_after (refused r) before = before
-point_after (answer p) before = sets before 0 (p.low ∷ p.high ∷ p.open_share ∷ [])
+point_after (Err r) before = before
+point_after (Ok p) before = sets before 0 (p.low ∷ p.high ∷ p.open_share ∷ [])

@@ -1,11 +1,10 @@
 -- The program's results: of a line, and of the lines so far. Then the theorem on what it prints. Assumes nothing.
+use Rattle.std.specs.Prelude.{Err, Ok, None}
 use Prim.Native.Nat.{ℕ, suc, ◌+◌, ◌≤◌, ◌<◌}
 use native.Mathlib.Omega.{arith}
 use mathlib.Core.Path.{◌≡◌, refl, sym, ap, ◌∙◌}
 use mathlib.Core.List.{List, [], ◌∷◌, ◌++◌, append-nil, append_assoc}
-use mathlib.Core.Option.{none}
 use lib.ListN.{length, drop}
-use Rattle.answer.specs.Answer.{refused, answer}
 use Rattle.answer.specs.declared.Refusal.{Refusal}
 use Rattle.buffer.specs.Text.{Begins}
 use Rattle.tally.specs.declared.Tally.{Tally}
@@ -22,7 +21,7 @@ use Rattle.ssat_tally.specs.Results.{Content, InRoom, Contents, line_kind, line_
 -- nothing read for any line
 nothing_for : List (List ℕ) → List Content
 nothing_for [] = []
-nothing_for (l ∷ ls) = none ∷ nothing_for ls
+nothing_for (l ∷ ls) = None ∷ nothing_for ls
 
 nothing_read : (ls : List (List ℕ)) → Contents ls (nothing_for ls)
 unfolding nothing_for
@@ -98,7 +97,7 @@ all_lines b at t h s =
 -- the text of the results' tally is what is printed for an accepted list
 printed_tally :
     (b : List ℕ) (cs : List Content) (k : ℕ) (t : Tally)
-    → list_file b ≡ answer k
+    → list_file b ≡ Ok k
     → t ≡ tally_after begun (line_kinds (list_lines b) cs)
     → tally_text t ≡ printed b cs
 printed_tally b cs k t e h = rw e (ap tally_text h)
@@ -106,7 +105,7 @@ printed_tally b cs k t e h = rw e (ap tally_text h)
 -- a buffer that begins with a refused list's line begins with what is printed; of such a list nothing is read
 pub prints_refusal :
     (b before after : List ℕ) (n : ℕ) (r : Refusal)
-    → list_file b ≡ refused r
+    → list_file b ≡ Err r
     → Begins before (refusal_line r) after n
     → (cs : List Content) × (Contents (list_lines b) cs × Begins before (printed b cs) after n)
 prints_refusal b before after n r e h = (nothing_for (list_lines b), (nothing_read (list_lines b), rw e h))
@@ -122,7 +121,7 @@ as_many (l ∷ ls) (c ∷ cs) h = ap suc (as_many ls cs h.1)
 -- and the last four add up to the first
 pub printed_counts :
     (b : List ℕ) (n : ℕ) (cs : List Content)
-    → list_file b ≡ answer n
+    → list_file b ≡ Ok n
     → Contents (list_lines b) cs
     → (t : Tally)
     → t ≡ tally_of (line_kinds (list_lines b) cs)

@@ -1,9 +1,8 @@
 -- Document 02's second program: the results that it takes in, one for each line of the list, and what it prints. What
 -- is read of the files is the system's; all else follows from it and from the list. Assumes nothing.
-use Rattle.std.specs.Prelude.{ℕ, ◌+◌, ◌≤◌, List, [], ◌∷◌, length}
-use Rattle.std.proofs.Math.Option.{Option, none, some}
+use Rattle.std.specs.Prelude.{ℕ, ◌+◌, ◌≤◌, List, [], ◌∷◌, length, Option, None, Some, Err, Ok}
 use Rattle.limits.specs.Limits.{max_bytes}
-use Rattle.answer.specs.Answer.{Answer, refused, answer}
+use Rattle.answer.specs.Answer.{Answer}
 use Rattle.value.specs.Value.{verdict_file}
 use Rattle.tally.specs.declared.Kind.{Kind}
 use Rattle.tally.specs.declared.Kind.TheVariants.{Refused}
@@ -18,8 +17,8 @@ Content = Option (List ℕ)
 
 -- there is room for one byte more than a rule file may have
 abbrev pub InRoom : Content → Type 0
-InRoom none = Unit {0}
-InRoom (some b) = length b ≤ max_bytes + 1
+InRoom None = Unit {0}
+InRoom (Some b) = length b ≤ max_bytes + 1
 
 -- one for each line, each no longer than the room
 abbrev pub Contents : List (List ℕ) → List Content → Type 0
@@ -30,13 +29,13 @@ Contents (l ∷ ls) (c ∷ cs) = InRoom c × Contents ls cs
 
 -- the result for a file: refused where nothing is read, else the kind of the verdict on its bytes
 abbrev pub file_kind : ℕ → ℕ → Content → Kind
-file_kind lower upper none = Refused
-file_kind lower upper (some b) = kind_of (verdict_file b lower upper)
+file_kind lower upper None = Refused
+file_kind lower upper (Some b) = kind_of (verdict_file b lower upper)
 
 -- the result for a line: one of another form counts as refused
 abbrev pub job_kind : Option Job → Content → Kind
-job_kind none c = Refused
-job_kind (some j) c = file_kind j.lower j.upper c
+job_kind None c = Refused
+job_kind (Some j) c = file_kind j.lower j.upper c
 
 abbrev pub line_kind : List ℕ → Content → Kind
 line_kind l = job_kind (job_of l)
@@ -49,8 +48,8 @@ line_kinds (l ∷ ls) (c ∷ cs) = line_kind l c ∷ line_kinds ls cs
 
 -- what is printed: the refusal's line, or the text of a tally of all results, begun with five noughts
 abbrev pub printed_by : List ℕ → List Content → Answer ℕ → List ℕ
-printed_by b cs (refused r) = refusal_line r
-printed_by b cs (answer k) = tally_text (tally_after begun (line_kinds (list_lines b) cs))
+printed_by b cs (Err r) = refusal_line r
+printed_by b cs (Ok k) = tally_text (tally_after begun (line_kinds (list_lines b) cs))
 
 abbrev pub printed : List ℕ → List Content → List ℕ
 printed b cs = printed_by b cs (list_file b)

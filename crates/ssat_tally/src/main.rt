@@ -10,13 +10,13 @@ ghost use Rattle.job_list.specs.JobList.{max_list_bytes, list_lines};
 ghost use Rattle.ssat_tally.specs.Results.{Content, InRoom, Contents, file_kind, line_kind, line_kinds, printed};
 
 use full_read::read_full;
-use job_list::{Listing, MAX_LIST_BYTES, Parsing, line_at, parse, read_list};
+use job_list::{Job, MAX_LIST_BYTES, line_at, parse, read_list};
 use limits::MAX_BYTES;
 use report::put_refusal;
 use solver::verdict;
 use std::rt::Files;
 use std::{fs, io, str};
-use tally::{Kind, Tally, absorbed, begin, kind_of};
+use tally::{Kind, Tally};
 use tally_report::tally_text;
 
 // Reads the file of this name whole to the start of `room`, and closes it; how many bytes there were. What has more
@@ -36,13 +36,13 @@ fn read_named(rt: &impl Files, name: &[u8], room: &mut [u8]) -> io::Result<usize
     Ok(n)
 }
 
-// The result of a file. It has room for one byte more than a rule file may have, so that a longer file is refused.
-fn file_result(rt: &impl Files, name: &[u8], lower: u64, upper: u64) -> Kind
-    ensures { (c : Content) × (InRoom c × (result ≡ file_kind lower upper c)) }
+// The result of a job's file. It has room for one byte more than a rule file may have, so that a longer file is refused.
+fn file_result(rt: &impl Files, job: &Job<'_>) -> Kind
+    ensures { (c : Content) × (InRoom c × (result ≡ file_kind job.now.lower job.now.upper c)) }
 {
     let mut room = [0; MAX_BYTES + 1];
-    match read_named(rt, name, &mut room) {
-        Ok(n) => kind_of(verdict(&room[..n], lower, upper)),
+    match read_named(rt, job.name, &mut room) {
+        Ok(n) => Kind::from(verdict(&room[..n], job.lower, job.upper)),
         Err(_) => Kind::Refused,
     }
 }
@@ -52,21 +52,21 @@ fn line_result(rt: &impl Files, line: &[u8]) -> Kind
     ensures { (c : Content) × (InRoom c × (result ≡ line_kind line.now c)) }
 {
     match parse(line) {
-        Parsing::Other => Kind::Refused,
-        Parsing::Job { name, lower, upper } => file_result(rt, &line[..name], lower, upper),
+        Some(job) => file_result(rt, &job),
+        None => Kind::Refused,
     }
 }
 
-// The tally of the results, line after line.
+// The tally of the results, line after line. A turn goes on by a line, so the index is no range's.
 fn tally_lines(rt: &impl Files, list: &[u8]) -> Tally
     requires { length list.now ≤ max_list_bytes }
     ensures { (cs : List Content) × (Contents (list_lines list.now) cs × (result ≡ tally_after begun (line_kinds (list_lines list.now) cs))) }
 {
-    let mut tally = begin();
+    let mut tally = Tally::new();
     let mut at = 0;
     while at < list.len() {
         let line = line_at(list, at);
-        tally = absorbed(tally, line_result(rt, line));
+        tally.absorb(line_result(rt, line));
         at += line.len() + 1;
     }
     tally
@@ -77,8 +77,8 @@ fn answer(rt: &impl Files, list: &[u8], text: &mut [u8; 138]) -> usize
     ensures { (cs : List Content) × (Contents (list_lines list.now) cs × Begins text.old (printed list.now cs) text.new result) }
 {
     match read_list(list) {
-        Listing::Refused(refusal) => put_refusal(text, 0, refusal),
-        Listing::Lines(_) => tally_text(tally_lines(rt, list), text),
+        Ok(_) => tally_text(tally_lines(rt, list), text),
+        Err(refusal) => put_refusal(text, 0, refusal),
     }
 }
 

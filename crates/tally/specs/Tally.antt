@@ -1,7 +1,7 @@
 -- Document 02's tally: five counts over the results of a list of files. Assumes nothing.
-use Rattle.std.specs.Prelude.{ℕ, ◌+◌, Bool, cond, List, [], ◌∷◌, length, leb, eqb}
+use Rattle.std.specs.Prelude.{ℕ, ◌+◌, Bool, cond, List, [], ◌∷◌, length, leb, eqb, Err, Ok}
 use Rattle.formula.specs.Formula.{some_of}
-use Rattle.answer.specs.Answer.{Answer, refused, answer}
+use Rattle.answer.specs.Answer.{Answer}
 use Rattle.value.specs.declared.thresholds.Verdict.{Verdict}
 use Rattle.value.specs.declared.thresholds.Verdict.TheVariants as verdict_variants
 use Rattle.tally.specs.declared.Tally.{Tally}
@@ -10,10 +10,10 @@ use Rattle.tally.specs.declared.Kind.TheVariants.{Refused, Above, Below, Within}
 
 -- the kind of a result, from the verdict's answer
 abbrev pub kind_of : Answer Verdict → Kind
-kind_of (refused _) = Refused
-kind_of (answer verdict_variants.Above) = Above
-kind_of (answer verdict_variants.Below) = Below
-kind_of (answer (verdict_variants.Within _)) = Within
+kind_of (Err _) = Refused
+kind_of (Ok verdict_variants.Above) = Above
+kind_of (Ok verdict_variants.Below) = Below
+kind_of (Ok (verdict_variants.Within _)) = Within
 
 -- a tally begins with five noughts
 abbrev pub begun : Tally

@@ -14,6 +14,7 @@ pub enum Verdict {
 }
 
 // Above where the figure is over hi, below where it is under lo, else the figure itself.
+#[tactic(auto, unfolding(crate::specs::Value::verdict))]
 pub fn verdict_of(lo: u64, hi: u64, figure: u64) -> Verdict
     ensures { result ≡ verdict lo hi figure }
 {

@@ -1,7 +1,7 @@
 -- The first copy, computed. Assumes nothing.
 use mathlib.Core.Path.{◌≡◌, refl}
 use mathlib.Core.List.{[], ◌∷◌, map}
-use mathlib.Core.Option.{none, some}
+use Rattle.std.specs.Prelude.{None, Some}
 use Rattle.formula.specs.Formula.{some_of, equal}
 use Rattle.words.specs.Walk.{first_copy_after, first_copy}
 
@@ -18,6 +18,6 @@ pub example_first_copies :
     ((0 ∷ 2 ∷ []) ∷ (2 ∷ 0 ∷ []) ∷ []) ∷
     []
     )
-    ≡ none ∷ none ∷ some 1 ∷ some 2 ∷ some 2 ∷ none ∷ none ∷ []
+    ≡ None ∷ None ∷ Some 1 ∷ Some 2 ∷ Some 2 ∷ None ∷ None ∷ []
 unfolding some_of equal first_copy_after
 example_first_copies = refl

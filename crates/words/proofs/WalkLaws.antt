@@ -5,7 +5,8 @@
 use mathlib.Core.Path.{◌≡◌, refl, sym, ap, ap₂, ◌∙◌}
 use mathlib.Core.Bool.{Bool, true, false, cond, ◌||◌}
 use mathlib.Core.List.{List, [], ◌∷◌, ◌++◌}
-use mathlib.Core.Option.{Option, none, some, some-ne-none, none-ne-some, some-injective}
+use Rattle.std.specs.Prelude.{Option, None, Some, unwrap_or}
+use Rattle.std.proofs.lemmas.Option.{none-some}
 use Prim.Native.Nat.{ℕ, zero, suc, ◌+◌, ◌-◌, ◌≤◌, ◌<◌}
 use native.Mathlib.Nat.{le_refl, not-suc-le-zero, le_of_suc-le-suc}
 use native.Mathlib.Numerals.{add-one}
@@ -16,9 +17,6 @@ use borrow.Author.Tests.{eqb-true, eq-eqb, ne_eqb}
 use Rattle.formula.specs.Formula.{some_of}
 use Rattle.formula.proofs.SomeLaws.{none_first, none_rest, none_by_places}
 use Rattle.words.specs.Walk.{start, elements, later, first, walk}
-use Rattle.words.specs.Found.{place}
-use Rattle.words.specs.declared.Found.{Found}
-use Rattle.words.specs.declared.Found.TheVariants as found_variants
 
 -- Where elements stand
 
@@ -114,16 +112,16 @@ module _ (next : ℕ → ℕ) where
 
 -- First places
 
-pub later_none : (o : Option ℕ) → later o ≡ none → o ≡ none
-later_none none e = refl
-later_none (some j) e = absurd (some-ne-none _ e)
+pub later_none : (o : Option ℕ) → later o ≡ None → o ≡ None
+later_none None e = refl
+later_none (Some j) e = absurd (none-some _ (sym e))
 
-later_some : (o : Option ℕ) (i : ℕ) → later o ≡ some i → (j : ℕ) × (o ≡ some j) × (suc j ≡ i)
-later_some none i e = absurd (none-ne-some i e)
-later_some (some j) i e = (j, refl, some-injective (suc j) i e)
+later_some : (o : Option ℕ) (i : ℕ) → later o ≡ Some i → (j : ℕ) × (o ≡ Some j) × (suc j ≡ i)
+later_some None i e = absurd (none-some i e)
+later_some (Some j) i e = (j, refl, ap (λ o. unwrap_or o (suc i)) e)
 
 module _ {A : Type 0} (f : A → Bool) where
-  first_passes : (x : A) (xs : List A) → f x ≡ true → first f (x ∷ xs) ≡ some 0
+  first_passes : (x : A) (xs : List A) → f x ≡ true → first f (x ∷ xs) ≡ Some 0
   unfolding first
   first_passes x xs t = rw (t, first)
 
@@ -131,45 +129,45 @@ module _ {A : Type 0} (f : A → Bool) where
   unfolding first
   first_fails x xs t = rw (t, first)
 
-  none_here : (x : A) (xs : List A) → first f (x ∷ xs) ≡ none → f x ≡ false
+  none_here : (x : A) (xs : List A) → first f (x ∷ xs) ≡ None → f x ≡ false
   none_here x xs e = go (f x) refl
     where
       go : (t : Bool) → f x ≡ t → f x ≡ false
       go false t = t
-      go true t = absurd (some-ne-none 0 (sym (first_passes x xs t) ∙ e))
+      go true t = absurd (none-some 0 (sym (sym (first_passes x xs t) ∙ e)))
 
   -- nothing is found exactly where no element passes
-  pub first_none : (xs : List A) → first f xs ≡ none → some_of f xs ≡ false
+  pub first_none : (xs : List A) → first f xs ≡ None → some_of f xs ≡ false
   unfolding some_of
   first_none [] e = refl
   first_none (x ∷ xs) e =
       let t = none_here x xs e in
       rw t (first_none xs (later_none _ (sym (first_fails x xs t) ∙ e)))
 
-  pub none_first_place : (xs : List A) → some_of f xs ≡ false → first f xs ≡ none
+  pub none_first_place : (xs : List A) → some_of f xs ≡ false → first f xs ≡ None
   unfolding first
   none_first_place [] e = refl
   none_first_place (x ∷ xs) e = first_fails x xs (none_first f x xs e) ∙ ap later (none_first_place xs (none_rest f x xs e))
 
   -- by places: the element at i passes, and none before it; or none at all
-  pub first_at : (d : A) (xs : List A) (i : ℕ) → i < length xs → ((k : ℕ) → k < i → f (get_or xs k d) ≡ false) → f (get_or xs i d) ≡ true → first f xs ≡ some i
+  pub first_at : (d : A) (xs : List A) (i : ℕ) → i < length xs → ((k : ℕ) → k < i → f (get_or xs k d) ≡ false) → f (get_or xs i d) ≡ true → first f xs ≡ Some i
   first_at d [] i h before t = absurd (omega arith)
   first_at d (x ∷ xs) zero h before t = first_passes x xs t
   first_at d (x ∷ xs) (suc i) h before t =
       first_fails x xs (before 0 (omega arith)) ∙ ap later (first_at d xs i (omega arith) (λ k h. before (suc k) (omega arith)) t)
 
-  pub first_nowhere : (d : A) (xs : List A) → ((k : ℕ) → k < length xs → f (get_or xs k d) ≡ false) → first f xs ≡ none
+  pub first_nowhere : (d : A) (xs : List A) → ((k : ℕ) → k < length xs → f (get_or xs k d) ≡ false) → first f xs ≡ None
   first_nowhere d xs fails = none_first_place xs (none_by_places f d xs fails)
 
   -- what is found passes
-  pub first_found : (xs : List A) (i : ℕ) (d : A) → first f xs ≡ some i → (i < length xs) × (f (get_or xs i d) ≡ true)
+  pub first_found : (xs : List A) (i : ℕ) (d : A) → first f xs ≡ Some i → (i < length xs) × (f (get_or xs i d) ≡ true)
   unfolding first
-  first_found [] i d e = absurd (none-ne-some i e)
+  first_found [] i d e = absurd (none-some i e)
   first_found (x ∷ xs) i d e = go (f x) refl (first_found xs)
     where
-      go : (t : Bool) → f x ≡ t → ((j : ℕ) (d : A) → first f xs ≡ some j → (j < length xs) × (f (get_or xs j d) ≡ true))
+      go : (t : Bool) → f x ≡ t → ((j : ℕ) (d : A) → first f xs ≡ Some j → (j < length xs) × (f (get_or xs j d) ≡ true))
           → (i < suc (length xs)) × (f (get_or (x ∷ xs) i d) ≡ true)
-      go true t rest = let at : 0 ≡ i = some-injective 0 i (sym (first_passes x xs t) ∙ e) in rw (← at) (omega arith, t)
+      go true t rest = let at : 0 ≡ i = ap (λ o. unwrap_or o 0) (sym (first_passes x xs t) ∙ e) in rw (← at) (omega arith, t)
       go false t rest =
           let (j, found, at) = later_some (first f xs) i (sym (first_fails x xs t) ∙ e) in
           let (h, u) = rest j d found in
@@ -179,43 +177,43 @@ module _ {A : Type 0} (f : A → Bool) where
 pub first_either : {A : Type 0} (f g : A → Bool) (xs : List A) → some_of f xs ≡ false → first (λ x. f x || g x) xs ≡ first g xs
 unfolding first
 first_either f g [] e = refl
-first_either f g (x ∷ xs) e = rw (none_first f x xs e, first) (ap (λ o. elim (g x) [ true ↦ some 0 | false ↦ later o ]) (first_either f g xs (none_rest f x xs e)))
+first_either f g (x ∷ xs) e = rw (none_first f x xs e, first) (ap (λ o. elim (g x) [ true ↦ Some 0 | false ↦ later o ]) (first_either f g xs (none_rest f x xs e)))
 
 -- what is found in the rest, counted from k
 unfoldable pub from : ℕ → Option ℕ → Option ℕ
-from k none = none
-from k (some i) = some (k + i)
+from k None = None
+from k (Some i) = Some (k + i)
 
 pub from_zero : (o : Option ℕ) → from 0 o ≡ o
 unfolding from
-from_zero none = refl
-from_zero (some i) = ap some (omega arith)
+from_zero None = refl
+from_zero (Some i) = ap Some (omega arith)
 
-pub from_here : (k : ℕ) → from k (some 0) ≡ some k
+pub from_here : (k : ℕ) → from k (Some 0) ≡ Some k
 unfolding from
-from_here k = ap some (omega arith)
+from_here k = ap Some (omega arith)
 
 pub from_later : (k : ℕ) (o : Option ℕ) → from k (later o) ≡ from (k + 1) o
 unfolding from
-from_later k none = refl
-from_later k (some i) = ap some (omega arith)
+from_later k None = refl
+from_later k (Some i) = ap Some (omega arith)
 
 -- the first element that passes, one element at a time: ys is what is left
 module _ {A : Type 0} (f : A → Bool) (k : ℕ) {x : A} {xs ys : List A} where
-  pub first_here : ys ≡ x ∷ xs → f x ≡ true → from k (first f ys) ≡ some k
+  pub first_here : ys ≡ x ∷ xs → f x ≡ true → from k (first f ys) ≡ Some k
   first_here e t = rw (e, first_passes f x xs t) (from_here k)
 
   pub first_later : ys ≡ x ∷ xs → f x ≡ false → from (k + 1) (first f xs) ≡ from k (first f ys)
   first_later e t = rw (e, first_fails f x xs t) (sym (from_later k (first f xs)))
 
-pub first_over : {A : Type 0} (f : A → Bool) (k : ℕ) {ys : List A} → ys ≡ [] → from k (first f ys) ≡ none
+pub first_over : {A : Type 0} (f : A → Bool) (k : ℕ) {ys : List A} → ys ≡ [] → from k (first f ys) ≡ None
 unfolding first from
 first_over f k e = rw e
 
 -- The walk
 
 module _ (next : ℕ → ℕ) (fits : ℕ → Bool) (end : ℕ) where
-  step_fault : (left i : ℕ) → fits i ≡ false → walk next fits end (suc left) i ≡ some 0
+  step_fault : (left i : ℕ) → fits i ≡ false → walk next fits end (suc left) i ≡ Some 0
   unfolding walk
   step_fault left i f = rw (f, walk)
 
@@ -224,7 +222,7 @@ module _ (next : ℕ → ℕ) (fits : ℕ → Bool) (end : ℕ) where
   step_on left i f = rw (f, walk)
 
   -- as a loop that counts up takes it: j of `count` elements are passed, and the next one stands at word i
-  pub walk_fault : (count j i : ℕ) → j < count → fits i ≡ false → from j (walk next fits end (count - j) i) ≡ some j
+  pub walk_fault : (count j i : ℕ) → j < count → fits i ≡ false → from j (walk next fits end (count - j) i) ≡ Some j
   walk_fault count j i h f =
       let e : count - j ≡ suc (count - (j + 1)) = omega arith in
       rw (e, step_fault (count - (j + 1)) i f) (from_here j)
@@ -236,31 +234,31 @@ module _ (next : ℕ → ℕ) (fits : ℕ → Bool) (end : ℕ) where
       rw (e, step_on (count - (j + 1)) i f) (sym (from_later j (walk next fits end (count - (j + 1)) (next i))))
 
   -- no element is left
-  walk_over : (count j i : ℕ) → count ≤ j → walk next fits end (count - j) i ≡ cond (eqb i end) none (some 0)
+  walk_over : (count j i : ℕ) → count ≤ j → walk next fits end (count - j) i ≡ cond (eqb i end) None (Some 0)
   unfolding walk
   walk_over count j i h = let e : count - j ≡ 0 = omega arith in ap (λ k. walk next fits end k i) e
 
-  pub walk_ended : (count j i : ℕ) → count ≤ j → i ≡ end → from j (walk next fits end (count - j) i) ≡ none
+  pub walk_ended : (count j i : ℕ) → count ≤ j → i ≡ end → from j (walk next fits end (count - j) i) ≡ None
   unfolding from
   walk_ended count j i h e = rw (walk_over count j i h, eq-eqb i end e)
 
-  pub walk_not_ended : (count j i : ℕ) → count ≤ j → (i ≡ end → ⊥) → from j (walk next fits end (count - j) i) ≡ some j
+  pub walk_not_ended : (count j i : ℕ) → count ≤ j → (i ≡ end → ⊥) → from j (walk next fits end (count - j) i) ≡ Some j
   walk_not_ended count j i h n = rw (walk_over count j i h, ne_eqb i end n) (from_here j)
 
   -- a walk without fault: each element fits, and the walk from the next one is without fault
-  walked_fits : (left i : ℕ) → walk next fits end (suc left) i ≡ none → fits i ≡ true
+  walked_fits : (left i : ℕ) → walk next fits end (suc left) i ≡ None → fits i ≡ true
   walked_fits left i e = go (fits i) refl
     where
       go : (t : Bool) → fits i ≡ t → fits i ≡ true
       go true f = f
-      go false f = absurd (some-ne-none 0 (sym (step_fault left i f) ∙ e))
+      go false f = absurd (none-some 0 (sym (sym (step_fault left i f) ∙ e)))
 
-  walked_rest : (left i : ℕ) → walk next fits end (suc left) i ≡ none → walk next fits end left (next i) ≡ none
+  walked_rest : (left i : ℕ) → walk next fits end (suc left) i ≡ None → walk next fits end left (next i) ≡ None
   walked_rest left i e = later_none _ (sym (step_on left i (walked_fits left i e)) ∙ e)
 
-  module _ (count i : ℕ) (walked : walk next fits end count i ≡ none) where
-    walked_from : (j : ℕ) → j ≤ count → walk next fits end (count - j) (start next i j) ≡ none
-    walked_from j h = kept_along next (λ left k. walk next fits end left k ≡ none) walked_rest count i j h walked
+  module _ (count i : ℕ) (walked : walk next fits end count i ≡ None) where
+    walked_from : (j : ℕ) → j ≤ count → walk next fits end (count - j) (start next i j) ≡ None
+    walked_from j h = kept_along next (λ left k. walk next fits end left k ≡ None) walked_rest count i j h walked
 
     -- element j fits
     pub walked_at : (j : ℕ) → j < count → fits (start next i j) ≡ true
@@ -274,14 +272,6 @@ module _ (next : ℕ → ℕ) (fits : ℕ → Bool) (end : ℕ) where
         let over = walk_over count count (start next i count) (le_refl count) in
         go (eqb (start next i count) end) refl (sym over ∙ walked_from count (le_refl count))
       where
-        go : (t : Bool) → eqb (start next i count) end ≡ t → cond {A = Option ℕ} t none (some 0) ≡ none → start next i count ≡ end
+        go : (t : Bool) → eqb (start next i count) end ≡ t → cond {A = Option ℕ} t None (Some 0) ≡ None → start next i count ≡ end
         go true e _ = eqb-true (start next i count) end e
-        go false _ w = absurd (some-ne-none 0 w)
-
--- what a search found, for a caller that goes by the case of it
-module _ {o : Option ℕ} {r : Found} (e : place r ≡ o) where
-  pub found_nothing : r ≡ found_variants.Nothing → o ≡ none
-  found_nothing c = sym e ∙ ap place c
-
-  pub found_at : {i : ℕ} → r ≡ found_variants.At i → o ≡ some i
-  found_at c = sym e ∙ ap place c
+        go false _ w = absurd (none-some 0 (sym w))

@@ -1,5 +1,4 @@
--- Elements that stand one after another in a file, its words and parts, words as bytes, and what a search found.
+-- Elements that stand one after another in a file, its words and parts, and words as bytes.
 pub mod Walk
 pub mod Words
 pub mod Bytes
-pub mod Found

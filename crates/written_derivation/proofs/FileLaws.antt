@@ -3,7 +3,7 @@
 -- ReadLaws. Assumes nothing.
 use mathlib.Core.Path.{◌≡◌, sym, ap, ◌∙◌}
 use mathlib.Core.List.{List, [], ◌∷◌, ◌++◌}
-use mathlib.Core.Option.{none}
+use Rattle.std.specs.Prelude.{None}
 use Prim.Native.Nat.{ℕ, suc, ◌+◌, ◌-◌, ◌*◌, ◌^◌, ◌≤◌, ◌<◌}
 use native.Mathlib.Omega.{arith}
 use lib.ListN.{length, get_or, length-append}
@@ -68,7 +68,7 @@ pub record ReadsAs (n : ℕ) (ls : List Line) (r : ℕ) (d : List ℕ) : Type 0 
   pub count_is : line_count d ≡ length ls
   pub reference_is : closing_reference d ≡ r
   pub lines_are : lines d ≡ ls
-  pub walked : walk_lines d n (trailer_start d) (line_count d) 0 ≡ none
+  pub walked : walk_lines d n (trailer_start d) (line_count d) 0 ≡ None
 
 module _ (n : ℕ) (ls : List Line) (r : ℕ) (fits : FileFits n ls r) where
   abbrev file : List ℕ

@@ -4,7 +4,7 @@
 use mathlib.Core.Path.{◌≡◌, refl, sym, ap, ap₂, ◌∙◌}
 use mathlib.Core.Bool.{true, ◌||◌}
 use mathlib.Core.List.{List, [], ◌∷◌, ◌++◌, append_assoc}
-use mathlib.Core.Option.{none}
+use Rattle.std.specs.Prelude.{None}
 use Prim.Native.Nat.{ℕ, suc, ◌+◌, ◌/◌, ◌%◌, ◌^◌, ◌≤◌, ◌<◌}
 use native.Mathlib.Omega.{arith}
 use lib.ListN.{length, length-append}
@@ -136,7 +136,7 @@ module _ (d : List ℕ) where
 
     -- lines of at most n literals, of which the last ends before the word `end`
     pub walk_back : (ls : List Line) (i : ℕ) → Stand d i (lines_words ls) → ((k : ℕ) → k < length ls → length (derived (line_at ls k)).literals ≤ n)
-        → i + length (lines_words ls) ≡ end → walk_lines d n end (length ls) i ≡ none
+        → i + length (lines_words ls) ≡ end → walk_lines d n end (length ls) i ≡ None
     unfolding lines_words walk
     walk_back [] i s few e = let h : i ≡ end = omega arith in rw (eq-eqb i end h)
     walk_back (l ∷ ls) i s few e =

@@ -1,11 +1,12 @@
 -- What is written for a rule file is accepted, with the figure: over the bytes of both files, and in the lent buffer.
 -- The definitions to read are in specs/Derive and specs/Claims. Assumes nothing.
+use Rattle.std.specs.Prelude.{Ok}
 use mathlib.Core.Path.{◌≡◌, refl}
 use mathlib.Core.List.{List}
 use Prim.Native.Nat.{ℕ, ◌≤◌}
 use native.Mathlib.Omega.{arith}
 use lib.ListN.{length, length-append, length-drop}
-use Rattle.answer.specs.Answer.{answer, buffer_after}
+use Rattle.answer.specs.Answer.{buffer_after}
 use Rattle.buffer.proofs.TextLaws.{put_begins}
 use Rattle.rule_file.specs.RuleFile.{clauses, prefix, whole}
 use Rattle.rule_file.specs.Accepted.{Accepted}
@@ -32,14 +33,14 @@ derivation_derives b capacity a s =
     file_derives b a (written_for b).lines proved (written_for b).reference (written_for b).clause.value closes s.few_lines s.few_bytes
 
 -- What is written is accepted with the figure
-pub written_is_accepted : (b : List ℕ) (capacity : ℕ) (d : List ℕ) → derive_file b capacity ≡ answer d → AcceptedWithFigure b d
+pub written_is_accepted : (b : List ℕ) (capacity : ℕ) (d : List ℕ) → derive_file b capacity ≡ Ok d → AcceptedWithFigure b d
 written_is_accepted b capacity d e =
     let (a, s, same) = derivation_answered b capacity d e in
     let checked = (accepted_iff b d (root_closing b)).1 (rw same at (derivation_derives b capacity a s)) in
     (record { figure = (root_closing b).value; whole = whole b }, accepted_is_answered b d (root_closing b) checked, checked)
 
 -- Where the answer is a length k, the buffer's first k bytes are accepted so, and its other bytes are as they were
-pub written_into_buffer : (b before : List ℕ) (k : ℕ) → length_of (derive_file b (length before)) ≡ answer k
+pub written_into_buffer : (b before : List ℕ) (k : ℕ) → length_of (derive_file b (length before)) ≡ Ok k
     → WrittenInto b before (buffer_after (derive_file b (length before)) before) k
 written_into_buffer b before k e =
     let (d, is, written) = length_answered (derive_file b (length before)) before _ k e refl in

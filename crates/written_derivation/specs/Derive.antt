@@ -1,7 +1,8 @@
 -- The writer's answer for every rule file and every lent buffer. Assumes nothing.
-use Rattle.std.specs.Prelude.{ℕ, Bool, ◌||◌, List, length, ltb}
+use Rattle.std.specs.Prelude.{ℕ, Bool, ◌||◌, List, length, ltb, Err, Ok}
 use Rattle.limits.specs.Limits.{max_bytes, max_lines}
-use Rattle.answer.specs.Answer.{Answer, refused, answer, refuse_if, and_then}
+use Rattle.answer.specs.Answer.{Answer, refuse_if, and_then}
+use Rattle.answer.specs.declared.Refusal.TheVariants as refusal
 use Rattle.rule_file.specs.RuleFile.{clauses, prefix}
 use Rattle.rule_file.specs.Reader.{read_file}
 use Rattle.written_derivation.specs.Writing.{Written, derivation_of}
@@ -22,9 +23,9 @@ too_long b capacity =
 
 -- the derivation's bytes for a lent buffer of so many bytes, or a refusal of the reader or 22
 unfoldable pub derive_file : List ℕ → ℕ → Answer (List ℕ)
-derive_file b capacity = and_then (read_file b) (λ _. refuse_if (too_long b capacity) 22 (answer (derivation_for b)))
+derive_file b capacity = and_then (read_file b) (λ _. refuse_if (too_long b capacity) refusal.DerivationTooLong (Ok (derivation_for b)))
 
 -- the operation answers how many they are
 abbrev pub length_of : Answer (List ℕ) → Answer ℕ
-length_of (refused r) = refused r
-length_of (answer d) = answer (length d)
+length_of (Err r) = Err r
+length_of (Ok d) = Ok (length d)

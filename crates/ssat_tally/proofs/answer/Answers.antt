@@ -6,7 +6,7 @@ use Rattle.ssat_tally.proofs.ResultsLaws.{prints_refusal}
 use Rattle.ssat_tally.proofs.answer.Goals as goal
 
 pub tally_lines-requires : goal.tally_lines-requires
-tally_lines-requires g c = (accepted_list _ _ (sym c.in-Lines.ensures.answer)).bytes
+tally_lines-requires g c = (accepted_list _ _ (sym c.in-Ok.ensures.answer)).bytes
 
-pub returns-in-Refused : goal.returns-in-Refused
-returns-in-Refused g c = prints_refusal _ _ _ _ _ (sym c.in-Refused.ensures.answer) (put_begins c.put_refusal.ensures)
+pub returns-in-Err : goal.returns-in-Err
+returns-in-Err g c = prints_refusal _ _ _ _ _ (sym c.in-Err.ensures.answer) (put_begins c.put_refusal.ensures)

@@ -1,2 +1,0 @@
--- How an answer is handed over.
-pub mod ConventionLaws
