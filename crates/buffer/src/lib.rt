@@ -4,14 +4,15 @@
 ghost use Rattle.std.specs.Prelude.{◌≡◌, ◌∷◌, ◌+◌, ◌*◌, ◌≤◌, length};
 ghost use Rattle.buffer.specs.Text.{Put, decimal, after_blanks, line};
 
-// The bytes of `text`, from index `at` on.
+// The bytes of `text`, from index `at` on. One by one: by `copy_from_slice` an archive for C would need `memmove`.
 pub fn put(out: &mut [u8], at: usize, text: &[u8]) -> usize
     requires { at + length text.now ≤ length out.old }
     ensures text { Put out.old at text.now out.new result }
 {
-    let end = at + text.len();
-    out[at..end].copy_from_slice(text);
-    end
+    for i in 0..text.len() {
+        out[at + i] = text[i];
+    }
+    at + text.len()
 }
 
 // A blank and n in decimal: at most 21 bytes.

@@ -2,7 +2,7 @@
 // functions of `cursor`, which take a slice and a cursor.
 #![tactic(auto)]
 
-mod cursor;
+pub mod cursor;
 
 ghost use Rattle.std.specs.Prelude.{◌≡◌};
 ghost use Rattle.clause_reader.specs.Cursor.{start_file, clause_file, advance_file, nth_file, clause_bytes};

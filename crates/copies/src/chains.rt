@@ -9,7 +9,7 @@ use limits::MAX_CLAUSES;
 use std::marker::Model;
 
 // As many as there are hashes: four for each set that there may be, so that most chains are short.
-const CHAINS: usize = 4096;
+pub const CHAINS: usize = 4096;
 
 // The sets that were taken in. A link or a head is the number after a set's place, so that 0 leads to none, in half the
 // space of an Option.

@@ -186,15 +186,16 @@ fn print_literals(rt: &impl Print, clause: &[u8]) -> io::Result<()> {
 
 // Clause after clause, and that none is left. The bound only makes the loop end: no accepted file has more clauses.
 fn print_clauses(rt: &impl Print, rule: &[u8]) -> io::Result<()> {
-    if let Err(refusal) = read(rule) {
+    if let Err(refusal) = nth_clause(rule, 0) {
         return print_refusal(rt, refusal);
     }
     print!(rt; "0")?;
     for j in 0..=MAX_CLAUSES {
-        let Ok(Some(clause)) = nth_clause(rule, j) else {
-            return print!(rt; " none");
-        };
-        print_literals(rt, part(rule, clause.start, clause.length))?;
+        match nth_clause(rule, j) {
+            Ok(Some(clause)) => print_literals(rt, part(rule, clause.start, clause.length))?,
+            Ok(None) => return print!(rt; " none"),
+            Err(_) => return Ok(()),
+        }
     }
     Ok(())
 }

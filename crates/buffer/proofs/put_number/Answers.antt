@@ -1,6 +1,6 @@
 -- `put_number`: a blank, then what `io::decimal` spelled. Assumes nothing.
-use Rattle.std.proofs.Common.{arith, take}
-use Rattle.buffer.proofs.DecimalLaws.{Spells, decimal_spells}
+use Rattle.std.proofs.Common.{arith}
+use Rattle.buffer.proofs.DecimalLaws.{decimal_spells}
 use Rattle.buffer.proofs.TextLaws.{put_append}
 use Rattle.buffer.proofs.put_number.Goals as goal
 
